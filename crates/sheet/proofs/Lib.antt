@@ -6,4 +6,3 @@ pub mod Marks
 pub mod Once
 pub mod Load
 pub mod Bodies
-pub mod Kids

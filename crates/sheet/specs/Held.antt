@@ -2,6 +2,9 @@
 use Prim.Native.Nat.{ℕ}
 use mathlib.Core.Path.{_≡_}
 use mathlib.Core.List.{List}
+use lib.ListN.{drop, getD, take}
+use Rattle.std.specs.declared.option.Option.{Option}
+use Rattle.format.specs.declared.ids.NodeId.{NodeId}
 use Rattle.format.specs.declared.fault.Part.the-variants as P
 use Rattle.format.specs.Faults.{None-apply}
 use Rattle.sheet.specs.declared.body.Body.{Body}
@@ -11,7 +14,7 @@ use Rattle.sheet.specs.declared.node.Node.{Node}
 use Rattle.sheet.specs.Causes.{Applies}
 use Rattle.sheet.specs.Lawful.{shapeOf}
 use Rattle.sheet.specs.Records.{nodesIn, childrenIn, bindingsIn, framesIn}
-use Rattle.sheet.specs.Shape.{Shape}
+use Rattle.sheet.specs.Shape.{Shape, blank}
 use Rattle.sheet.specs.Tables.{listed}
 
 abbrev pub treeOf : Body → Shape
@@ -19,6 +22,10 @@ treeOf b = shapeOf (b .nodes) (b .children)
 
 abbrev pub nodesOf : Body → List Node
 nodesOf b = listed (b .nodes)
+
+-- the children of the node at place i, each of which may be absent
+abbrev pub childrenOf : Body → ℕ → List (Option NodeId)
+childrenOf b i = take (getD (nodesOf b) i blank .count) (drop (getD (nodesOf b) i blank .first) (listed (b .children)))
 
 abbrev pub bindingsOf : Body → List Binding
 bindingsOf b = listed (b .bindings)

@@ -1,9 +1,9 @@
 -- The nodes of a body and their children, as lists: node number n stands at place n - 1.
 use Prim.Native.Nat.{ℕ, _+_, _-_}
 use mathlib.Core.List.{List, [], _∷_}
-use mathlib.Core.Bool.{cond, _&&_}
-use lib.Dec.{eqb, ltb}
-use lib.ListN.{getD, length}
+use mathlib.Core.Bool.{cond}
+use lib.Dec.{eqb}
+use lib.ListN.{getD}
 use Rattle.std.specs.declared.option.Option.{Option}
 use Rattle.std.specs.declared.option.Option.the-variants.{Some, None}
 use Rattle.format.specs.declared.kind.NodeKind.{NodeKind}
@@ -47,7 +47,3 @@ total (n ∷ ns) = n .count + total ns
 abbrev pub times : ℕ → List ℕ → ℕ
 times c [] = 0
 times c (x ∷ xs) = cond (eqb c x) 1 0 + times c xs
-
--- the number of the child at place j of node i, 0 where it is absent or there is no such node or place
-abbrev pub kid : Shape → ℕ → ℕ → ℕ
-kid t i j = cond (ltb i (length (t .nodes)) && ltb j (nodeAt t i .count)) (childAt t i j) 0

@@ -1,10 +1,9 @@
 // What a body holds, told by number.
 ghost use Prim.Native.Nat.{ℕ, _+_, _-_, _<_, _≤_};
 ghost use Rattle.format.specs.Ids.{numberOf};
-ghost use Rattle.sheet.specs.Held.{bindingsOf, framesOf, nodesOf, treeOf};
-ghost use Rattle.sheet.specs.Shape.{kid};
+ghost use Rattle.sheet.specs.Held.{bindingsOf, childrenOf, framesOf, nodesOf, treeOf};
 ghost use Rattle.sheet.specs.Tables.{found};
-ghost use lib.ListN.{length};
+ghost use lib.ListN.{getD, length};
 ghost use Rattle.std.specs.declared.option.Option.the-variants.{None};
 ghost use mathlib.Core.Path.{_≡_};
 use crate::body::Body;
@@ -39,7 +38,7 @@ impl Body {
 
     // The child at a place, from 0; none where it is absent or there is no such place.
     pub fn child(&self, n: NodeId, place: u16) -> Option<NodeId>
-        ensures is_that_child { λ r. ⌜ numberOf r ≡ kid (treeOf (now (self .entry))) (n .raw - 1) place ⌝ }
+        ensures is_that_child { λ r. ⌜ r ≡ getD (childrenOf (now (self .entry)) (n .raw - 1)) place None ⌝ }
         ensures is_lower { λ r. ⌜ numberOf r < n .raw ⌝ }
     {
         let node = self.nodes.get(n.raw as usize - 1)?;
