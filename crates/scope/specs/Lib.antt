@@ -1,0 +1,13 @@
+pub mod Bare
+pub mod Blank
+pub mod Shape
+pub mod Held
+pub mod Tables
+pub mod Once
+pub mod Visit
+pub mod Law
+pub mod Words
+pub mod Named
+pub mod Ranges
+pub mod Refusals
+pub mod Queries
