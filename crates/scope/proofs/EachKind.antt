@@ -27,16 +27,18 @@ use Rattle.scope.specs.Shape.{Shape}
 use Rattle.scope.specs.Visit.{State, Visit, skip, nth, made, put, added, inner, constantly, all, each, step, others, opened, labelled, selfed}
 use Rattle.scope.specs.Law.{bound, held, Sight, binds, leaves, gathered, joined, allBinds, parameters, brings, shuts, bindStep, leaveStep, bindingOf, below, selfOf}
 use Rattle.scope.specs.Words.{twice}
-use Rattle.scope.specs.Tables.{kids, kid, kindOf, patternAt, turn}
+use Rattle.scope.specs.Tables.{isExpr, kids, kid, kindOf, patternAt, turn}
 use Rattle.scope.proofs.Runs.{View, Fair, Stands, Run, view-in, run-view, run-none, run-then, run-at, run-put, run-added, run-made, made-fair, made-kept, made-view}
 
 use Rattle.scope.proofs.Good.{Here, After, Good, Goods, within, here-run, here-const, here-made, quiet, done, Each, each-good, all-good, good-none, good-at, good-drop, good-others, quiet-all}
 use Rattle.std.proofs.shelf.Lists.{getD-drop}
+use Rattle.std.proofs.shelf.Tests.{both-ways}
 
 
 -- what is known where a node n of kind k is visited with the binds xs in sight
 pub record Given (b : Shape) (m n : ℕ) (k : NodeKind) (vs : List Visit) (xs : List ℕ) : Type 0 where
   pub real : 0 < n
+  pub kind : kindOf b n ≡ k
   pub sight : Sight b m n xs
   pub sights : (i : ℕ) → Sight b m (kid b n i) (brings b k (kids b n) i ++ cond (shuts k i) (parameters b m) xs)
   pub plain : (i : ℕ) → patternAt k i ≡ false → binds b (kid b n i) ≡ []
@@ -71,21 +73,21 @@ turn-twice zero x y = refl
 turn-twice (suc j) x y = turn-twice j x y
 
 -- the node itself is recorded
-putting : {b : Shape} {m n : ℕ} {k : NodeKind} {vs : List Visit} {at : Place} {s : State} {ns : List (List ℕ)} {xs : List ℕ} → Given b m n k vs xs → Here b m at s ns xs → Run b m (at .current .0) [] s ns (put n (at .current) s) ns
-putting {b} {m} {n} {k} {vs} {at} {s} {ns} {xs} g h = run-put b m (at .current .0) n (at .current) s ns xs (g .real) (h .fair) (g .sight) (h .current)
+putting : {b : Shape} {m n : ℕ} {k : NodeKind} {vs : List Visit} {at : Place} {s : State} {ns : List (List ℕ)} {xs : List ℕ} → isExpr k ≡ true → Given b m n k vs xs → Here b m at s ns xs → Run b m (at .current .0) [] s ns (put n (at .current) s) ns
+putting {b} {m} {n} {k} {vs} {at} {s} {ns} {xs} x g h = run-put b m (at .current .0) n (at .current) s ns xs (g .real) (ap isExpr (g .kind) ∙ x) (h .fair) (g .sight) (h .current)
 
 leaf : (b : Shape) (m n : ℕ) → Steps b m n Leaf
 unfolding step
-leaf b m n vs at s ns xs g h = done h (putting g h)
+leaf b m n vs at s ns xs g h = done h (putting refl g h)
 
 use-of : (b : Shape) (m n : ℕ) (x : Name) (y : HygieneId) → Steps b m n (Use x y)
 unfolding step
-use-of b m n x y vs at s ns xs g h = done h (putting g h)
+use-of b m n x y vs at s ns xs g h = done h (putting refl g h)
 
 sequence : (b : Shape) (m n : ℕ) → Steps b m n Sequence
 unfolding step
 sequence b m n vs at s ns xs g h =
-    let r = putting g h in
+    let r = putting refl g h in
     let e = each-good (g .goods) at (put n (at .current) s) ns xs (here-run r h) (g .sights) in
     done h (run-then (within h) r (quiet (at .current .0) (quiet-all b (kids b n) (λ i. g .plain i refl)) (e .run)))
 
@@ -143,14 +145,14 @@ expression b m n vs at s ns xs g h =
 constant : (b : Shape) (m n : ℕ) → Steps b m n Const
 unfolding step
 constant b m n vs at s ns xs g h =
-    let r = putting g h in
+    let r = putting refl g h in
     let a = good-at (g .goods) 0 (constantly at) (put n (at .current) s) ns (parameters b m) (here-const (here-run r h)) (g .sights 0) in
     done h (run-then (within h) r (quiet (at .current .0) (g .plain 0 refl) (a .run)))
 
 repeat : (b : Shape) (m n : ℕ) → Steps b m n Repeat
 unfolding step
 repeat b m n vs at s ns xs g h =
-    let r = putting g h in
+    let r = putting refl g h in
     let a = good-at (g .goods) 0 at (put n (at .current) s) ns xs (here-run r h) (g .sights 0) in
     let p = run-then (within h) r (quiet (at .current .0) (g .plain 0 refl) (a .run)) in
     let s1 = nth vs 0 at (put n (at .current) s) .0 in
@@ -160,7 +162,7 @@ repeat b m n vs at s ns xs g h =
 cast : (b : Shape) (m n : ℕ) → Steps b m n Cast
 unfolding step
 cast b m n vs at s ns xs g h =
-    let r = putting g h in
+    let r = putting refl g h in
     let a = good-at (g .goods) 0 at (put n (at .current) s) ns xs (here-run r h) (g .sights 0) in
     let p = run-then (within h) r (quiet (at .current .0) (g .plain 0 refl) (a .run)) in
     let s1 = nth vs 0 at (put n (at .current) s) .0 in
@@ -170,7 +172,7 @@ cast b m n vs at s ns xs g h =
 matching : (b : Shape) (m n : ℕ) → Steps b m n Match
 unfolding step
 matching b m n vs at s ns xs g h =
-    let r = putting g h in
+    let r = putting refl g h in
     let a = good-at (g .goods) 0 at (put n (at .current) s) ns xs (here-run r h) (g .sights 0) in
     let p = run-then (within h) r (quiet (at .current .0) (g .plain 0 refl) (a .run)) in
     let s1 = nth vs 0 at (put n (at .current) s) .0 in
@@ -180,17 +182,17 @@ matching b m n vs at s ns xs g h =
 loop : (b : Shape) (m n : ℕ) (l : Option LabelId) → Steps b m n (Loop l)
 unfolding step inner
 loop b m n l vs at s ns xs g h =
-    let r = putting g h in
+    let r = putting refl g h in
     let h0 = here-run r h in
     let s0 = put n (at .current) s in
     let k = labelled l in
     let a = good-at (g .goods) 0 (inner k at s0 .1) (inner k at s0 .0) (ns ++ ([] ∷ [])) xs (here-made k [] h0) (g .sights 0) in
-    done h (run-then (within h) r (run-made (at .current .0) k (at .current) s0 ns [] (h0 .fair) (quiet (length (s0 .scopes) + 1) (g .plain 0 refl) (a .run))))
+    done h (run-then (within h) r (run-made (at .current .0) k (at .current) s0 ns [] (λ _. refl) (h0 .fair) (quiet (length (s0 .scopes) + 1) (g .plain 0 refl) (a .run))))
 
 both : (b : Shape) (m n : ℕ) → Steps b m n And
 unfolding step
 both b m n vs at s ns xs g h =
-    let r = putting g h in
+    let r = putting refl g h in
     let h0 = here-run r h in
     let s0 = put n (at .current) s in
     let a = good-at (g .goods) 0 at s0 ns xs h0 (g .sights 0) in
@@ -204,7 +206,7 @@ both b m n vs at s ns xs g h =
 if : (b : Shape) (m n : ℕ) → Steps b m n If
 unfolding step inner made put
 if b m n vs at s ns xs g h =
-    let r = putting g h in
+    let r = putting refl g h in
     let h0 = here-run r h in
     let s0 = put n (at .current) s in
     let o = inner scope.Plain at s0 in
@@ -213,7 +215,7 @@ if b m n vs at s ns xs g h =
     let c = good-at (g .goods) 1 (r1 .1) (r1 .0) (a .names) (leaves b (kid b n 0) ++ xs) (a .there) (g .sights 1) in
     let r2 = nth vs 1 (r1 .1) (r1 .0) in
     let q = length (s0 .scopes) + 1 in
-    let p = run-made (at .current .0) scope.Plain (at .current) s0 ns [] (h0 .fair) (run-then (within (here-made scope.Plain [] h0)) (quiet q (g .plain 0 refl) (a .run)) (quiet q (g .plain 1 refl) (c .run))) in
+    let p = run-made (at .current .0) scope.Plain (at .current) s0 ns [] (λ _. refl) (h0 .fair) (run-then (within (here-made scope.Plain [] h0)) (quiet q (g .plain 0 refl) (a .run)) (quiet q (g .plain 1 refl) (c .run))) in
     let w = run-then (within h) r p in
     let e = good-at (g .goods) 2 at (r2 .0) (c .names) xs (here-run w h) (g .sights 2) in
     done h (run-then (within h) w (quiet (at .current .0) (g .plain 2 refl) (e .run)))
@@ -221,7 +223,7 @@ if b m n vs at s ns xs g h =
 condition : (b : Shape) (m n : ℕ) → Steps b m n Let
 unfolding step inner made
 condition b m n vs at s ns xs g h =
-    let r = putting g h in
+    let r = putting refl g h in
     let h0 = here-run r h in
     let s0 = put n (at .current) s in
     let a = good-at (g .goods) 1 at s0 ns xs h0 (g .sights 1) in
@@ -232,7 +234,7 @@ condition b m n vs at s ns xs g h =
     let ys = binds b (kid b n 0) in
     let h2 = here-made scope.Plain ys h1 in
     let c = good-at (g .goods) 0 (o .1) (o .0) (a .names ++ (ys ∷ [])) (ys ++ xs) h2 (g .sights 0) in
-    let w = run-then (within h) p (run-made (at .current .0) scope.Plain (at .current) s1 (a .names) ys (h1 .fair) (c .run)) in
+    let w = run-then (within h) p (run-made (at .current .0) scope.Plain (at .current) s1 (a .names) ys (λ x. absurd (both-ways false refl x)) (h1 .fair) (c .run)) in
     record { names = c .names; run = w; there = here-run (c .run) h2 }
 
 letting : (b : Shape) (m n : ℕ) → Steps b m n LetStatement
@@ -246,7 +248,7 @@ letting b m n vs at s ns xs g h =
     let ys = binds b (kid b n 0) in
     let h2 = here-made scope.Plain ys h1 in
     let c = good-at (g .goods) 0 (o .1) (o .0) (a .names ++ (ys ∷ [])) (ys ++ xs) h2 (g .sights 0) in
-    let w = run-then (within h) p (run-made (at .current .0) scope.Plain (at .current) s1 (a .names) ys (h1 .fair) (c .run)) in
+    let w = run-then (within h) p (run-made (at .current .0) scope.Plain (at .current) s1 (a .names) ys (λ x. absurd (both-ways false refl x)) (h1 .fair) (c .run)) in
     record { names = c .names; run = w; there = here-run (c .run) h2 }
 
 arm : (b : Shape) (m n : ℕ) → Steps b m n Arm
@@ -264,12 +266,12 @@ arm b m n vs at s ns xs g h =
     let q = length (s .scopes) + 1 in
     let w = run-then (within h0) (a .run) (run-then (within h1) (quiet q (g .plain 1 refl) (c .run)) (quiet q (g .plain 2 refl) (e .run))) in
     let v : Run b m q (map (bound b) ys) (o .0) (ns ++ (ys ∷ [])) (nth vs 2 (r2 .1) (r2 .0) .0) (e .names) = subst (λ k. Run b m q k (o .0) (ns ++ (ys ∷ [])) (nth vs 2 (r2 .1) (r2 .0) .0) (e .names)) (append-nil (map (bound b) ys)) w in
-    done h (run-made (at .current .0) scope.Plain (at .current) s ns ys (h .fair) v)
+    done h (run-made (at .current .0) scope.Plain (at .current) s ns ys (λ x. absurd (both-ways false refl x)) (h .fair) v)
 
 -- the statements and the tail of a block
 inside : (b : Shape) (m n : ℕ) (x : Option BlockId) (l : Option LabelId) (vs : List Visit) (at : Place) (s : State) (ns : List (List ℕ)) (xs : List ℕ) → Given b m n (Block x l) vs xs → Here b m at s ns xs → Each b m [] at s ns (let r = all (drop 1 vs) at (put n (at .current) s) in nth vs 0 (r .1) (r .0) .0)
 inside b m n x l vs at s ns xs g h =
-    let r = putting g h in
+    let r = putting refl g h in
     let h0 = here-run r h in
     let s0 = put n (at .current) s in
     let a = all-good (good-drop 1 (g .goods)) at s0 ns xs h0 (λ j. subst (λ k. Sight b m k (gathered b (take j (drop 1 (kids b n))) ++ xs)) (sym (tail-at 0 (kids b n) j)) (g .sights (suc j))) (λ j. ap (binds b) (tail-at 0 (kids b n) j) ∙ g .plain (suc j) refl) in
@@ -285,15 +287,15 @@ here-apart {b} {m} {at} {s} {ns} {xs} k h = record { fair = made-fair k (at .con
 block : (b : Shape) (m n : ℕ) (x : Option BlockId) (l : Option LabelId) → Steps b m n (Block x l)
 unfolding step inner made put
 block b m n None l vs at s ns xs g h =
-    let r = putting g h in
+    let r = putting refl g h in
     let h0 = here-run r h in
     let s0 = put n (at .current) s in
     let k = labelled l in
     let o = inner k at s0 in
     let a = inside b m n None l vs (o .1) (o .0) (ns ++ ([] ∷ [])) xs g (here-made k [] h0) in
-    done h (run-then (within h) r (run-made (at .current .0) k (at .current) s0 ns [] (h0 .fair) (a .run)))
+    done h (run-then (within h) r (run-made (at .current .0) k (at .current) s0 ns [] (λ _. refl) (h0 .fair) (a .run)))
 block b m n (Some x) l vs at s ns xs g h =
-    let r = putting g h in
+    let r = putting refl g h in
     let h0 = here-run r h in
     let s0 = put n (at .current) s in
     let k = scope.Block x l in
@@ -302,7 +304,7 @@ block b m n (Some x) l vs at s ns xs g h =
     let h1 = here-made k [] h0 in
     let h2 = here-apart k2 h1 in
     let a = inside b m n (Some x) l vs (record { current = o .1 .current; constant = made k2 (at .constant) (o .0) .1 }) (made k2 (at .constant) (o .0) .0) ((ns ++ ([] ∷ [])) ++ ([] ∷ [])) xs g h2 in
-    done h (run-then (within h) r (run-made (at .current .0) k (at .current) s0 ns [] (h0 .fair) (run-made (o .1 .current .0) k2 (at .constant) (o .0) (ns ++ ([] ∷ [])) [] (h1 .fair) (run-at (length (o .0 .scopes) + 1) (a .run)))))
+    done h (run-then (within h) r (run-made (at .current .0) k (at .current) s0 ns [] (λ _. refl) (h0 .fair) (run-made (o .1 .current .0) k2 (at .constant) (o .0) (ns ++ ([] ∷ [])) [] (λ _. refl) (h1 .fair) (run-at (length (o .0 .scopes) + 1) (a .run)))))
 
 macro : (b : Shape) (m n : ℕ) (x : MacroId) → Steps b m n (MacroDef x)
 unfolding step inner made
@@ -313,7 +315,7 @@ macro b m n x vs at s ns xs g h =
     let h2 = here-apart k h1 in
     let t = made k (at .constant) (o .0) .0 in
     record { names = (ns ++ ([] ∷ [])) ++ ([] ∷ []);
-             run = run-made (at .current .0) k (at .current) s ns [] (h .fair) (run-made (o .1 .current .0) k (at .constant) (o .0) (ns ++ ([] ∷ [])) [] (h1 .fair) (run-none b m (length (o .0 .scopes) + 1) t ((ns ++ ([] ∷ [])) ++ ([] ∷ [])) (h2 .fair)));
+             run = run-made (at .current .0) k (at .current) s ns [] (λ _. refl) (h .fair) (run-made (o .1 .current .0) k (at .constant) (o .0) (ns ++ ([] ∷ [])) [] (λ _. refl) (h1 .fair) (run-none b m (length (o .0 .scopes) + 1) t ((ns ++ ([] ∷ [])) ++ ([] ∷ [])) (h2 .fair)));
              there = h2 }
 
 closure : (b : Shape) (m n : ℕ) → Steps b m n Closure
@@ -323,7 +325,7 @@ closure b m n vs at s ns xs g h =
     let ps = allBinds b (others (drop 2 cs)) in
     let par = parameters b m in
     let c0 = at .current .0 in
-    let r = putting g h in
+    let r = putting refl g h in
     let h0 = here-run r h in
     let s0 = put n (at .current) s in
     let i3 : (j : ℕ) → getD (others (drop 3 cs)) j 0 ≡ kid b n (suc (suc (suc (twice j)))) = λ j. others-at (drop 3 cs) j ∙ tail-at 2 cs (twice j) ∙ tail-at 1 cs (suc (twice j)) ∙ tail-at 0 cs (suc (suc (twice j))) in
@@ -347,7 +349,7 @@ closure b m n vs at s ns xs g h =
     let q = length (s2 .scopes) + 1 in
     let z = run-then (within h3) (w .run) (quiet q (g .plain 0 refl) (a .run)) in
     let v : Run b m q (map (bound b) ps) (o .0) (u .names ++ (ps ∷ [])) (nth vs 0 (o .1) s4 .0) (a .names) = subst (λ k. Run b m q k (o .0) (u .names ++ (ps ∷ [])) (nth vs 0 (o .1) s4 .0) (a .names)) (append-nil (map (bound b) ps)) z in
-    done h (run-then (within h) p2 (run-made c0 scope.Plain (at .current) s2 (u .names) ps (h2 .fair) v))
+    done h (run-then (within h) p2 (run-made c0 scope.Plain (at .current) s2 (u .names) ps (λ x. absurd (both-ways false refl x)) (h2 .fair) v))
 
 drop-map : {X Y : Type 0} (f : X → Y) (cs : List X) → drop 1 (map f cs) ≡ map f (drop 1 cs)
 drop-map f [] = refl

@@ -13,3 +13,4 @@ pub mod Words
 pub mod Laws
 pub mod Ranges
 pub mod Own
+pub mod Chains

@@ -17,7 +17,7 @@ use Rattle.format.specs.declared.kind.NodeKind.{NodeKind}
 use Rattle.format.specs.Ids.{numberOf}
 use Rattle.scope.specs.Shape.{Shape, Below, childrenOf}
 use Rattle.scope.specs.Visit.{State, built}
-use Rattle.scope.specs.Law.{bound, Sight, root, below, Reach-stands, Reach-in, Entries-in, On-chain, itself, outward, Holds, Bound-for, Met-once, held, Reaches, parameter, brought, kept, Met, Seen, Tree-law, Lawful, Among, binds, parameters, brings, shuts}
+use Rattle.scope.specs.Law.{bound, Sight, root, below, Reach-stands, Reach-in, Entries-in, On-chain, itself, outward, Holds, Bound-for, Met-once, held, Listed-for, parameter, brought, kept, Met, Seen, Tree-law, Lawful, Among, binds, parameters, brings, shuts}
 use Rattle.scope.specs.Tables.{Node-of, kids, kid, kindOf}
 use Rattle.sheet.specs.Shape.{times}
 use Rattle.scope.specs.Once.{Once, numbers, childrenTo}
@@ -138,21 +138,21 @@ everywhere b m x e xs (below {p = p} {xs = ys} i h g) a = among-right x (brings 
     pick true k = a
     pick false k = k
 
-forth : (b : Shape) (m : ℕ) → Tree-law b m → (x e : ℕ) (xs : List ℕ) → Sight b m e xs → Among x xs → Reaches b m x e
+forth : (b : Shape) (m : ℕ) → Tree-law b m → (x e : ℕ) (xs : List ℕ) → Sight b m e xs → Among x xs → Listed-for b m x e
 forth b m t x e xs root a = parameter m a
 forth b m t x e xs (below {p = p} {xs = ys} i h g) a =
     elim (among-split x (brings b (kindOf b p) (kids b p) i) (cond (shuts (kindOf b p) i) (parameters b m) ys) a)
     [ inl k ↦ brought p i (h, sight-low b m t p ys g) k
     | inr k ↦ pick (shuts (kindOf b p) i) refl k (forth b m t x p ys g) ]
   where
-    pick : (z : Bool) → shuts (kindOf b p) i ≡ z → Among x (cond z (parameters b m) ys) → (Among x ys → Reaches b m x p) → Reaches b m x (kid b p i)
+    pick : (z : Bool) → shuts (kindOf b p) i ≡ z → Among x (cond z (parameters b m) ys) → (Among x ys → Listed-for b m x p) → Listed-for b m x (kid b p i)
     pick true q k f = parameter (kid b p i) k
     pick false q k f = kept p i (h, sight-low b m t p ys g) q (f k)
 
 one-parent : (b : Shape) (m : ℕ) → Tree-law b m → (p q i j : ℕ) → Node-of m p → Node-of m q → 0 < kid b p i → kid b p i ≡ kid b q j → (p ≡ q) × (i ≡ j)
 one-parent b m t p q i j x y z e = lone b m (t .below) (t .once) (t .size .1) p q i j (x .0) (x .1) (y .0) (y .1) z e
 
-back : (b : Shape) (m : ℕ) → Tree-law b m → (x e : ℕ) → Reaches b m x e → (d : ℕ) (xs : List ℕ) → Sight b m d xs → e ≡ d → 0 < e → Among x xs
+back : (b : Shape) (m : ℕ) → Tree-law b m → (x e : ℕ) → Listed-for b m x e → (d : ℕ) (xs : List ℕ) → Sight b m d xs → e ≡ d → 0 < e → Among x xs
 back b m t x e (parameter c a) d xs g q k = everywhere b m x d xs g a
 back b m t x e (brought p i h a) d xs root q k = absurd (omega (arith, low b (t .below) p (h .0) (omega (arith, h, t .size)) i, h))
 back b m t x e (brought p i h a) d xs (below {p = r} {xs = ys} j y g) q k =

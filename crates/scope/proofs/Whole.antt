@@ -25,7 +25,7 @@ use Rattle.scope.specs.Blank.{noScope}
 use Rattle.format.specs.Ids.{numberOf}
 use Rattle.scope.specs.Shape.{Shape, Below, childrenOf}
 use Rattle.scope.specs.Visit.{State, Visit, skip, nth, all, each, step, ofChild, folded, below as values, visitOf, visits, built, first, start, selfIn, selfed}
-use Rattle.scope.specs.Law.{bound, held, Sight, root, below, Met, Seen, Tree-law, present, binds, leaves, joined, allBinds, parameters, bindStep, leaveStep, bindingOf, selfOf, brings, shuts}
+use Rattle.scope.specs.Law.{Blocks-hold-none, Is-in, Only-expressions, bound, held, holdsNone, Sight, root, below, Met, Seen, Tree-law, present, binds, leaves, joined, allBinds, parameters, bindStep, leaveStep, bindingOf, selfOf, brings, shuts}
 use Rattle.scope.specs.Tables.{isBody, suits, unless, Fits, Node-of, binding, kids, kid, kindOf, patternAt}
 use Rattle.scope.proofs.Runs.{View, Fair, Stands, Run, view-in, run-view, run-none, run-then, run-at}
 use Rattle.scope.proofs.Good.{Here, After, Good, Goods, within, here-run, quiet, Each, each-good, good-none, good-at, good-drop}
@@ -142,7 +142,7 @@ good-node b m law n o ih at s ns xs h g =
     let p : 0 < n = o .0 in
     let q : n ≤ 512 = omega (arith, o, law .size) in
     let v : go b n ≡ step n (kindOf b n) (visits b n) = present-is skip (visitOf b) n p ∙ folded-is skip step b fall n p q in
-    let z : Given b m n (kindOf b n) (visits b n) xs = record { real = p; sight = g; sights = λ i. below i p g; plain = λ i. tidy b m law n i o; goods = goods-kids b m fall n p q ih } in
+    let z : Given b m n (kindOf b n) (visits b n) xs = record { real = p; kind = refl; sight = g; sights = λ i. below i p g; plain = λ i. tidy b m law n i o; goods = goods-kids b m fall n p q ih } in
     let a = by-kind b m n (kindOf b n) refl (visits b n) at s ns xs z h in
     subst (λ w. After b m (binds b n) (leaves b n) xs at s ns (w at s)) (sym v) (subst (λ w. After b m (binds b n) w xs at s ns (step n (kindOf b n) (visits b n) at s)) (sym (leaves-are b fall n p q)) (subst (λ w. After b m w (leaveStep b n (kindOf b n) (map (leaves b) (kids b n))) xs at s ns (step n (kindOf b n) (visits b n) at s)) (sym (binds-are b fall n p q)) a))
 
@@ -196,10 +196,16 @@ is-body (Body x) e = refl
 at-root : (b : Shape) (m : ℕ) (t : Tree-law b m) (i : ℕ) → Sight b m (kid b m i) (parameters b m)
 at-root b m t i = subst (λ k. Sight b m (kid b m i) (brings b k (kids b m) i ++ cond (shuts k i) (parameters b m) (parameters b m))) (is-body (kindOf b m) (t .body)) (below i (t .size .0) root)
 
--- every node with a recorded scope meets, from there outward, the bindings of the binds in its sight
-pub seen : (b : Shape) (m : ℕ) → Tree-law b m → (e : ℕ) (r : ScopeId) → getD (built b m .placed) e None ≡ Some r → Seen b m (built b m) (suc e) r
+-- the visit of the whole body, from scope 1 alone
+record Whole (b : Shape) (m : ℕ) : Type 0 where
+  names : List (List ℕ)
+  own : List BindingId
+  run : Run b m 1 own start (parameters b m ∷ []) (built b m) names
+  holds : (h : ℕ) → 0 < h → h ≤ length (built b m .scopes) → held h (built b m .entries) ≡ map (bound b) (getD names (h - 1) [])
+
+whole-run : (b : Shape) (m : ℕ) → Tree-law b m → Whole b m
 unfolding built parameters
-seen b m law e r k =
+whole-run b m law =
     let ks = kids b m in
     let self = selfIn (kindOf b m) in
     let ps = parameters b m in
@@ -225,6 +231,30 @@ seen b m law e r k =
             let one : h ≡ 1 = omega arith in
             let at-one : held 1 (built b m .entries) ≡ map (bound b) (getD (c .names) 0 []) = z .old 1 (omega arith) ∙ all-of ∙ ap (λ k. map (bound b) (getD k 0 [])) (sym (z .names-are)) in
             subst (λ h. held h (built b m .entries) ≡ map (bound b) (getD (c .names) (h - 1) [])) (sym one) at-one ] in
-    elim (z .placed e r k)
+    record { names = c .names; own = map (bound b) (selfOf m self) ++ (map (bound b) (allBinds b (drop 1 ks)) ++ []); run = z; holds = held-is }
+
+-- every node with a recorded scope meets, from there outward, the bindings of the binds in its sight
+pub seen : (b : Shape) (m : ℕ) → Tree-law b m → (e : ℕ) (r : ScopeId) → getD (built b m .placed) e None ≡ Some r → Seen b m (built b m) (suc e) r
+seen b m law e r k =
+    let w = whole-run b m law in
+    elim (w .run .placed e r k)
     [ inl g ↦ absurd (none-placed 512 e r g)
-    | inr g ↦ record { binds = g .names; sight = g .sight; met = met-of b (built b m) (c .names) held-is (r .0) (g .names) (g .view) } ]
+    | inr g ↦ record { expr = g .expr; binds = g .names; sight = g .sight; met = met-of b (built b m) (w .names) (w .holds) (r .0) (g .names) (g .view) } ]
+
+-- only expressions have a recorded scope
+pub only-expressions : (b : Shape) (m : ℕ) → Tree-law b m → Only-expressions b (built b m)
+only-expressions b m law e r k = seen b m law e r k .expr
+
+pub root-first : (b : Shape) (m : ℕ) → Tree-law b m → getD (built b m .scopes) 0 noScope ≡ noScope
+root-first b m law = ap (λ rs. getD rs 0 noScope) (whole-run b m law .run .scopes-are)
+
+-- the scopes of blocks and of macro definitions hold no entry
+pub blocks-hold-none : (b : Shape) (m : ℕ) → Tree-law b m → Blocks-hold-none (built b m)
+blocks-hold-none b m law c h x =
+    let w = whole-run b m law in
+    elim (cases-lt 1 c)
+    [ inl g ↦ w .holds c (h .0) (h .1) ∙ ap (map (bound b)) (w .run .empty c g (h .1) x)
+    | inr g ↦
+      let one : c ≡ 1 = omega (arith, h) in
+      let i : c - 1 ≡ 0 = omega arith in
+      absurd (yes-no (sym (sym (ap (λ j. holdsNone (getD (built b m .scopes) j noScope .kind)) i ∙ ap (λ z. holdsNone (z .kind)) (root-first b m law)) ∙ x))) ]

@@ -12,8 +12,8 @@ use Rattle.format.specs.declared.kind.NodeKind.the-variants.{Leaf, Use, Sequenc
 use Rattle.scope.specs.Shape.{Shape, Below}
 use Rattle.scope.specs.Visit.{State, others, selfIn}
 use Rattle.scope.specs.Tables.{kindOf, kids, kid, Node-of, turn}
-use Rattle.scope.specs.Law.{Tree-law, Reaches, Reach-in, parameters, selfOf, Among, binds, leaves, joined, allBinds, gathered, brings, bindStep, leaveStep}
-use Rattle.scope.specs.Words.{Bound-in, Lasts, Brings, In-scope, Scope-law, twice}
+use Rattle.scope.specs.Law.{Tree-law, Listed-for, Reach-in, parameters, selfOf, Among, binds, leaves, joined, allBinds, gathered, brings, bindStep, leaveStep}
+use Rattle.scope.specs.Words.{Bound-in, Lasts, Brings, Reaches, Reach-law, twice}
 use Rattle.scope.proofs.Whole.{low, binds-are, leaves-are}
 use Rattle.scope.proofs.Reach.{among-left, among-right, among-split}
 use Rattle.scope.proofs.EachKind.{tail-at, leaves-at, others-at, turn-twice}
@@ -206,7 +206,7 @@ brings-of b fall x p z w i (Brings.own-condition q u) = brings-by b x p Let q 0 
 brings-of b fall x p z w i (Brings.own-arm q u) = brings-by b x p Arm q 0 (bound-of b fall x (kid b p 0) (omega (arith, low b fall p z w 0)) u)
 brings-of b fall x p z w i (Brings.own-closure k j q u) = brings-by b x p Closure q (suc (suc (twice k))) (subst (λ ys. Among x ys) (sym (turn-twice k (allBinds b (others (drop 2 (kids b p)))) [])) (joined-of b x (others (drop 2 (kids b p))) j (subst (λ c. Among x (binds b c)) (sym (patterns-at b p j)) (bound-of b fall x (kid b p (suc (suc (twice j)))) (omega (arith, low b fall p z w (suc (suc (twice j))))) u))))
 
-self-at : (b : Shape) (m x : ℕ) (k : NodeKind) → kindOf b m ≡ k → (e : ℕ) → Among x (selfOf m (selfIn k)) → In-scope b m x e
+self-at : (b : Shape) (m x : ℕ) (k : NodeKind) → kindOf b m ≡ k → (e : ℕ) → Among x (selfOf m (selfIn k)) → Reaches b m x e
 self-at b m x Leaf q e a = absurd a
 self-at b m x (Use y h) q e a = absurd a
 self-at b m x Sequence q e a = absurd a
@@ -233,28 +233,28 @@ self-at b m x LeafPattern q e a = absurd a
 self-at b m x LeafType q e a = absurd a
 self-at b m x Arm q e a = absurd a
 self-at b m x (Body None) q e a = absurd a
-self-at b m x (Body (Some v)) q e (inl s) = In-scope.self v e s q
+self-at b m x (Body (Some v)) q e (inl s) = Reaches.self v e s q
 self-at b m x (Body (Some v)) q e (inr s) = absurd s
 
-pub words-to : (b : Shape) (m : ℕ) → Tree-law b m → (x e : ℕ) → Reaches b m x e → In-scope b m x e
+pub words-to : (b : Shape) (m : ℕ) → Tree-law b m → (x e : ℕ) → Listed-for b m x e → Reaches b m x e
 unfolding parameters
-words-to b m t x e (Reaches.parameter c a) = elim (among-split x (selfOf m (selfIn (kindOf b m))) (allBinds b (drop 1 (kids b m))) a)
+words-to b m t x e (Listed-for.parameter c a) = elim (among-split x (selfOf m (selfIn (kindOf b m))) (allBinds b (drop 1 (kids b m))) a)
     [ inl k ↦ self-at b m x (kindOf b m) refl c k
     | inr k ↦
       let r = joined-at b x (drop 1 (kids b m)) k in
       let u = subst (λ d. Among x (binds b d)) (tail-at 0 (kids b m) (r .0)) (r .1) in
-      In-scope.parameter (r .0) c (bound-to b (t .below) x (suc (kid b m (suc (r .0)))) (kid b m (suc (r .0))) (omega arith) (omega (arith, low b (t .below) m (t .size .0) (t .size .1) (suc (r .0)), t .size)) u) ]
-words-to b m t x e (Reaches.brought p i h a) = In-scope.brought p i h (brings-kind b (t .below) x p (kindOf b p) (h .0) (omega (arith, h, t .size)) refl i a)
-words-to b m t x e (Reaches.kept p i h f a) = In-scope.kept p i h f (words-to b m t x p a)
+      Reaches.parameter (r .0) c (bound-to b (t .below) x (suc (kid b m (suc (r .0)))) (kid b m (suc (r .0))) (omega arith) (omega (arith, low b (t .below) m (t .size .0) (t .size .1) (suc (r .0)), t .size)) u) ]
+words-to b m t x e (Listed-for.brought p i h a) = Reaches.brought p i h (brings-kind b (t .below) x p (kindOf b p) (h .0) (omega (arith, h, t .size)) refl i a)
+words-to b m t x e (Listed-for.kept p i h f a) = Reaches.kept p i h f (words-to b m t x p a)
 
-pub words-of : (b : Shape) (m : ℕ) → Tree-law b m → (x e : ℕ) → In-scope b m x e → Reaches b m x e
+pub words-of : (b : Shape) (m : ℕ) → Tree-law b m → (x e : ℕ) → Reaches b m x e → Listed-for b m x e
 unfolding parameters
-words-of b m t x e (In-scope.parameter i c u) = Reaches.parameter c (among-right x (selfOf m (selfIn (kindOf b m))) (allBinds b (drop 1 (kids b m))) (joined-of b x (drop 1 (kids b m)) i (subst (λ d. Among x (binds b d)) (sym (tail-at 0 (kids b m) i)) (bound-of b (t .below) x (kid b m (suc i)) (omega (arith, low b (t .below) m (t .size .0) (t .size .1) (suc i), t .size)) u))))
-words-of b m t x e (In-scope.self v c s q) = Reaches.parameter c (among-left x (selfOf m (selfIn (kindOf b m))) (allBinds b (drop 1 (kids b m))) (subst (λ k. Among x (selfOf m (selfIn k))) (sym q) (inl s)))
-words-of b m t x e (In-scope.brought p i h u) = Reaches.brought p i h (brings-of b (t .below) x p (h .0) (omega (arith, h, t .size)) i u)
-words-of b m t x e (In-scope.kept p i h f a) = Reaches.kept p i h f (words-of b m t x p a)
+words-of b m t x e (Reaches.parameter i c u) = Listed-for.parameter c (among-right x (selfOf m (selfIn (kindOf b m))) (allBinds b (drop 1 (kids b m))) (joined-of b x (drop 1 (kids b m)) i (subst (λ d. Among x (binds b d)) (sym (tail-at 0 (kids b m) i)) (bound-of b (t .below) x (kid b m (suc i)) (omega (arith, low b (t .below) m (t .size .0) (t .size .1) (suc i), t .size)) u))))
+words-of b m t x e (Reaches.self v c s q) = Listed-for.parameter c (among-left x (selfOf m (selfIn (kindOf b m))) (allBinds b (drop 1 (kids b m))) (subst (λ k. Among x (selfOf m (selfIn k))) (sym q) (inl s)))
+words-of b m t x e (Reaches.brought p i h u) = Listed-for.brought p i h (brings-of b (t .below) x p (h .0) (omega (arith, h, t .size)) i u)
+words-of b m t x e (Reaches.kept p i h f a) = Listed-for.kept p i h f (words-of b m t x p a)
 
-pub in-words : (b : Shape) (m : ℕ) (s : State) → Tree-law b m → Reach-in b m s → Scope-law b m s
+pub in-words : (b : Shape) (m : ℕ) (s : State) → Tree-law b m → Reach-in b m s → Reach-law b m s
 in-words b m s t law e r k =
     let g = law e r k in
     record { binds = g .binds; met = g .met; scope = λ x. (λ a. words-to b m t x (suc e) (g .reach x .0 a), λ a. g .reach x .1 (words-of b m t x (suc e) a)) }

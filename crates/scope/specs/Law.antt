@@ -14,6 +14,8 @@ use Rattle.scope.specs.Bare.{Scope}
 use Rattle.scope.specs.Bare.{Entry}
 use Rattle.format.specs.declared.kind.NodeKind.{NodeKind}
 use Rattle.format.specs.declared.kind.NodeKind.the-variants.{Leaf, Use, Sequence, And, If, Let, Block, Loop, Closure, Match, Const, Repeat, Cast, LeafPattern, Bind, Patterns, ValuePattern, LeafType, Types, ArrayType, LetStatement, ExprStatement, MacroDef, OtherItem, Arm, Body}
+use Rattle.scope.specs.declared.data.ScopeKind.{ScopeKind}
+use Rattle.scope.specs.declared.data.ScopeKind.the-variants as scope
 use Rattle.scope.specs.Blank.{noScope}
 use Rattle.format.specs.Ids.{numberOf}
 use Rattle.scope.specs.Shape.{Shape, Below, nodeAt, childrenOf}
@@ -222,15 +224,22 @@ parameters b m = selfOf m (selfIn (kindOf b m)) ++ allBinds b (drop 1 (kids b m)
 -- THE LAW OF REACH: the name bound at x is in scope at node e of the body m,
 -- for it is a parameter's; or the node above brings it into scope there;
 -- or it is in scope at the node above, and e is no type, length or constant
-pub data Reaches (b : Shape) (m x : ℕ) : ℕ → Type 0 where
-  parameter : (e : ℕ) → Among x (parameters b m) → Reaches b m x e
-  brought : (p i : ℕ) → Node-of m p → Among x (brings b (kindOf b p) (kids b p) i) → Reaches b m x (kid b p i)
-  kept : (p i : ℕ) → Node-of m p → shuts (kindOf b p) i ≡ false → Reaches b m x p → Reaches b m x (kid b p i)
+pub data Listed-for (b : Shape) (m x : ℕ) : ℕ → Type 0 where
+  parameter : (e : ℕ) → Among x (parameters b m) → Listed-for b m x e
+  brought : (p i : ℕ) → Node-of m p → Among x (brings b (kindOf b p) (kids b p) i) → Listed-for b m x (kid b p i)
+  kept : (p i : ℕ) → Node-of m p → shuts (kindOf b p) i ≡ false → Listed-for b m x p → Listed-for b m x (kid b p i)
 
 -- the same as lists, the innermost first: the binds in scope at a node
 pub data Sight (b : Shape) (m : ℕ) : ℕ → List ℕ → Type 0 where
   root : Sight b m m (parameters b m)
   below : {p : ℕ} {xs : List ℕ} (i : ℕ) → 0 < p → Sight b m p xs → Sight b m (kid b p i) (brings b (kindOf b p) (kids b p) i ++ cond (shuts (kindOf b p) i) (parameters b m) xs)
+
+-- whether a scope of a kind is never given an entry: a block's, and a macro definition's
+abbrev pub holdsNone : ScopeKind → Bool
+holdsNone scope.Plain = false
+holdsNone (scope.Block i l) = true
+holdsNone (scope.Label l) = false
+holdsNone (scope.MacroDef q) = true
 
 -- the bindings of the entries of scope h
 abbrev pub held : ℕ → List Entry → List BindingId
@@ -244,6 +253,7 @@ pub data Met (s : State) : ℕ → List BindingId → Type 0 where
 
 -- the scope recorded for e, and from there outward the bindings of the binds in sight, in order
 pub record Seen (b : Shape) (m : ℕ) (s : State) (e : ℕ) (r : ScopeId) : Type 0 where
+  pub expr : isExpr (kindOf b e) ≡ true
   pub binds : List ℕ
   pub sight : Sight b m e binds
   pub met : Met s (r .0) (map (bound b) binds)
@@ -262,16 +272,34 @@ pub record Tree-law (b : Shape) (m : ℕ) : Type 0 where
 pub record Lawful (b : Shape) (m : ℕ) (s : State) (e : ℕ) (r : ScopeId) : Type 0 where
   pub binds : List ℕ
   pub met : Met s (r .0) (map (bound b) binds)
-  pub reach : (x : ℕ) → Among x binds ↔ Reaches b m x e
+  pub reach : (x : ℕ) → Among x binds ↔ Listed-for b m x e
 
 -- every expression of the body has a recorded scope
 abbrev pub All-recorded : Shape → ℕ → State → Type 0
 All-recorded b m s = (e : ℕ) → suc e < m → isExpr (kindOf b (suc e)) ≡ true → (r : ScopeId) × (getD (s .placed) e None ≡ Some r)
 
+-- no other node has one
+abbrev pub Only-expressions : Shape → State → Type 0
+Only-expressions b s = (e : ℕ) (r : ScopeId) → getD (s .placed) e None ≡ Some r → isExpr (kindOf b (suc e)) ≡ true
+
+-- a scope of the tree
+abbrev pub Is-in : State → ℕ → Type 0
+Is-in s c = (0 < c) × (c ≤ length (s .scopes))
+
+-- the scopes of blocks and of macro definitions hold no entry
+abbrev pub Blocks-hold-none : State → Type 0
+Blocks-hold-none s = (c : ℕ) → Is-in s c → holdsNone (getD (s .scopes) (c - 1) noScope .kind) ≡ true → held c (s .entries) ≡ []
+
 -- scope h is on the chain of scope c
 pub data On-chain (s : State) (h : ℕ) : ℕ → Type 0 where
   itself : On-chain s h h
   outward : (c : ℕ) (p : ScopeId) → getD (s .scopes) (c - 1) noScope .parent ≡ Some p → On-chain s h (p .0) → On-chain s h c
+
+-- parents have lower numbers than their scopes, scope 1 alone has none, and every chain ends at scope 1
+pub record Tree-of-scopes (s : State) : Type 0 where
+  pub parents-lower : (c : ℕ) (p : ScopeId) → Is-in s c → getD (s .scopes) (c - 1) noScope .parent ≡ Some p → (0 < p .0) × (p .0 < c)
+  pub root-alone : (c : ℕ) → Is-in s c → getD (s .scopes) (c - 1) noScope .parent ≡ None → c ≡ 1
+  pub chains-end-at-1 : (c : ℕ) → Is-in s c → On-chain s 1 c
 
 -- a scope on the chain of c holds an entry of binding v
 pub record Holds (s : State) (v : BindingId) (c : ℕ) : Type 0 where
@@ -283,7 +311,7 @@ pub record Holds (s : State) (v : BindingId) (c : ℕ) : Type 0 where
 pub record Bound-for (b : Shape) (m : ℕ) (v : BindingId) (e : ℕ) : Type 0 where
   pub at : ℕ
   pub binds : v ≡ bound b at
-  pub reach : Reaches b m at e
+  pub reach : Listed-for b m at e
 
 -- the law of reach in short: an entry of v is on the chain of the scope recorded for e exactly if v is bound at a bind that reaches e
 abbrev pub Entries-in : Shape → ℕ → State → Type 0

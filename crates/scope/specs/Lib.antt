@@ -11,3 +11,4 @@ pub mod Named
 pub mod Ranges
 pub mod Refusals
 pub mod Queries
+pub mod Examples

@@ -1,3 +1,4 @@
+-- The nodes of a body and their children: node number n stands at place n - 1.
 use mathlib.Core.Path.{_≡_}
 use mathlib.Core.List.{List}
 use Prim.Native.Nat.{ℕ, _+_, _-_, _<_, _≤_}
@@ -17,10 +18,6 @@ nodeAt ns n = getD ns (n - 1) blank
 abbrev pub childAt : List (Option NodeId) → ℕ → Option NodeId
 childAt cs i = getD cs i None
 
--- every node's part of the child table lies within it
-abbrev pub Within : List Node → Type 0
-Within ns = (k : ℕ) → k < 512 → getD ns k blank .first + getD ns k blank .count ≤ 1024
-
 -- every child is numbered below its parent
 abbrev pub Below : List Node → List (Option NodeId) → Type 0
 Below ns cs = (k i : ℕ) → k < 512 → i < getD ns k blank .count → numberOf (childAt cs (getD ns k blank .first + i)) ≤ k
@@ -30,8 +27,6 @@ pub record Shape : Type 0 where
   pub nodes : List Node
   pub children : List (Option NodeId)
 
-abbrev pub shape : List Node → List (Option NodeId) → Shape
-shape ns cs = record { nodes = ns; children = cs }
-
+-- the children of node number n, each of which may be absent
 abbrev pub childrenOf : Shape → ℕ → List (Option NodeId)
 childrenOf b n = take (nodeAt (b .nodes) n .count) (drop (nodeAt (b .nodes) n .first) (b .children))

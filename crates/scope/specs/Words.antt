@@ -1,3 +1,5 @@
+-- How far a name reaches, in the words of the Rust Reference, over the nodes alone. Rules of the
+-- Reference are named by their labels; what the ported crate alone adds stands apart.
 use mathlib.Core.Path.{_≡_}
 use mathlib.Core.Bool.{false}
 use Prim.Native.Nat.{ℕ, suc, zero, _+_, _<_, _≤_}
@@ -37,37 +39,41 @@ pub data Lasts (b : Shape) (x : ℕ) : ℕ → Type 0 where
 
 -- node p brings the name bound at x into scope for its child i
 pub data Brings (b : Shape) (x p : ℕ) : ℕ → Type 0 where
-  -- a let statement: later statements of its block, and the block's tail
+  -- a let statement's names reach the later statements of its block, and the block's tail [names.scopes.pattern-bindings.let]
   later : (a : Option BlockId) (l : Option LabelId) (i j : ℕ) → kindOf b p ≡ Block a l → i < j → Lasts b x (kid b p (suc i)) → Brings b x p (suc j)
   tail : (a : Option BlockId) (l : Option LabelId) (i : ℕ) → kindOf b p ≡ Block a l → Lasts b x (kid b p (suc i)) → Brings b x p 0
-  -- a condition's let: what follows in the condition, and the then-branch
+  -- those of a let in a condition reach what follows in the condition, and the then-branch [names.scopes.pattern-bindings.let-chains]
   follows : (i : ℕ) → kindOf b p ≡ And → Lasts b x (kid b p 0) → Brings b x p (suc i)
   then : kindOf b p ≡ If → Lasts b x (kid b p 0) → Brings b x p 1
-  -- an arm's pattern: its guard and expression; its guard's let: the expression
+  -- an arm's names reach its guard and its expression [names.scopes.pattern-bindings.match-arm]
   guard : kindOf b p ≡ Arm → Bound-in b x (kid b p 0) → Brings b x p 1
   arm : (i : ℕ) → kindOf b p ≡ Arm → Bound-in b x (kid b p 0) → Brings b x p (suc (suc i))
+  -- those of a let in its guard reach the arm's expression [names.scopes.pattern-bindings.match-guard-let]
   guarded : (i : ℕ) → kindOf b p ≡ Arm → Lasts b x (kid b p 1) → Brings b x p (suc (suc i))
-  -- a closure's parameters: its body
+  -- a closure's parameters reach its body [names.scopes.pattern-bindings.closure]
   closure : (j : ℕ) → kindOf b p ≡ Closure → Bound-in b x (kid b p (suc (suc (twice j)))) → Brings b x p 0
-  -- and each, by the crate alone: its own patterns' expressions
+  -- by the crate alone, each reaches also the expressions of its own patterns
   own-let : kindOf b p ≡ LetStatement → Bound-in b x (kid b p 0) → Brings b x p 0
   own-condition : kindOf b p ≡ Let → Bound-in b x (kid b p 0) → Brings b x p 0
   own-arm : kindOf b p ≡ Arm → Bound-in b x (kid b p 0) → Brings b x p 0
   own-closure : (i j : ℕ) → kindOf b p ≡ Closure → Bound-in b x (kid b p (suc (suc (twice j)))) → Brings b x p (suc (suc (twice i)))
 
 -- the name bound at x is in scope at node e of the body m
-pub data In-scope (b : Shape) (m x : ℕ) : ℕ → Type 0 where
-  parameter : (i e : ℕ) → Bound-in b x (kid b m (suc i)) → In-scope b m x e
-  self : (v : BindingId) (e : ℕ) → x ≡ m → kindOf b m ≡ Body (Some v) → In-scope b m x e
-  brought : (p i : ℕ) → Node-of m p → Brings b x p i → In-scope b m x (kid b p i)
-  kept : (p i : ℕ) → Node-of m p → shuts (kindOf b p) i ≡ false → In-scope b m x p → In-scope b m x (kid b p i)
+pub data Reaches (b : Shape) (m x : ℕ) : ℕ → Type 0 where
+  -- parameters and self reach the whole body [names.scopes.pattern-bindings.parameter]
+  parameter : (i e : ℕ) → Bound-in b x (kid b m (suc i)) → Reaches b m x e
+  self : (v : BindingId) (e : ℕ) → x ≡ m → kindOf b m ≡ Body (Some v) → Reaches b m x e
+  -- a name that the node above brings into scope for this child
+  brought : (p i : ℕ) → Node-of m p → Brings b x p i → Reaches b m x (kid b p i)
+  -- a name in scope at the node above, unless this child is a type, a length or a constant: by the crate alone, of the names outside only those of parameters and self reach into these
+  kept : (p i : ℕ) → Node-of m p → shuts (kindOf b p) i ≡ false → Reaches b m x p → Reaches b m x (kid b p i)
 
--- what one meets from scope r outward, in order, are the bindings of exactly the binds that are in scope at e
+-- what one meets from scope r outward, in order, are the bindings of a list of binds, and x is among them exactly if it reaches e
 pub record Agrees (b : Shape) (m : ℕ) (s : State) (e : ℕ) (r : ScopeId) : Type 0 where
   pub binds : List ℕ
   pub met : Met s (r .0) (map (bound b) binds)
-  pub scope : (x : ℕ) → Among x binds ↔ In-scope b m x e
+  pub scope : (x : ℕ) → Among x binds ↔ Reaches b m x e
 
 -- THE LAW OF REACH: so it is at every node with a recorded scope
-abbrev pub Scope-law : Shape → ℕ → State → Type 0
-Scope-law b m s = (e : ℕ) (r : ScopeId) → getD (s .placed) e None ≡ Some r → Agrees b m s (suc e) r
+abbrev pub Reach-law : Shape → ℕ → State → Type 0
+Reach-law b m s = (e : ℕ) (r : ScopeId) → getD (s .placed) e None ≡ Some r → Agrees b m s (suc e) r

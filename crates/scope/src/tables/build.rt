@@ -2,11 +2,11 @@
 ghost use Prim.Native.Nat.{ℕ, _+_, _<_, _≤_};
 ghost use Rattle.scope.specs.Blank.{bareEntry};
 ghost use Rattle.scope.specs.Held.{shapeOf};
-ghost use Rattle.scope.specs.Law.{All-recorded, Entries-in};
+ghost use Rattle.scope.specs.Law.{All-recorded, Blocks-hold-none, Entries-in, Only-expressions, Tree-of-scopes};
 ghost use Rattle.scope.specs.Named.{Named, nameOf, noEntry, renamed};
 ghost use Rattle.scope.specs.Ranges.{homeOf};
 ghost use Rattle.scope.specs.Visit.{built, selfIn, selfed, told};
-ghost use Rattle.scope.specs.Words.{Scope-law};
+ghost use Rattle.scope.specs.Words.{Reach-law};
 ghost use Rattle.sheet.specs.Held.{bindingsOf, nodesOf};
 ghost use lib.ListN.{getD, length, set, take};
 ghost use mathlib.Core.List.{map};
@@ -96,8 +96,12 @@ impl ExprScopes {
     // The scope tree of a body: scope 1 with self and the parameters, then the expression.
     pub fn new_body(body: &Body) -> ExprScopes
         ensures is_the_tree_of_the_visit { λ r. ⌜ built (shapeOf (now (body .entry))) (length (nodesOf (now (body .entry)))) ≡ told r ⌝ }
+        ensures fits_its_tables { λ r. ⌜ (length (told r .scopes) ≤ 1023) × (length (told r .entries) ≤ 512) ⌝ }
         ensures records_every_expression { λ r. ⌜ All-recorded (shapeOf (now (body .entry))) (length (nodesOf (now (body .entry)))) (told r) ⌝ }
-        ensures sees_just_what_reaches { λ r. ⌜ Scope-law (shapeOf (now (body .entry))) (length (nodesOf (now (body .entry)))) (told r) ⌝ }
+        ensures records_nothing_else { λ r. ⌜ Only-expressions (shapeOf (now (body .entry))) (told r) ⌝ }
+        ensures is_a_tree { λ r. ⌜ Tree-of-scopes (told r) ⌝ }
+        ensures gives_blocks_no_entry { λ r. ⌜ Blocks-hold-none (told r) ⌝ }
+        ensures sees_just_what_reaches { λ r. ⌜ Reach-law (shapeOf (now (body .entry))) (length (nodesOf (now (body .entry)))) (told r) ⌝ }
         ensures holds_just_what_reaches { λ r. ⌜ Entries-in (shapeOf (now (body .entry))) (length (nodesOf (now (body .entry)))) (told r) ⌝ }
         ensures names_each_entry { λ r. ⌜ Named (bindingsOf (now (body .entry))) (take (r .entries .len) (r .entries .records)) ⌝ }
     {

@@ -2,21 +2,24 @@ use native.Mathlib.Omega.{arith}
 use Prim.Native.Nat.{ℕ, _-_}
 use mathlib.Core.Path.{_≡_, refl, ap, sym, _∙_, subst}
 use mathlib.Core.List.{List}
-use lib.ListN.{drop, getD, length}
+use lib.ListN.{drop, getD, length, take}
+use Rattle.std.proofs.shelf.Lists.{length-map, length-take}
 use Rattle.sheet.specs.Tables.{listed}
 use Rattle.scope.specs.Bare.{Entry}
-use Rattle.scope.specs.Blank.{blankScope}
+use Rattle.scope.specs.Blank.{bareEntry, bareScope, blankScope, noScope}
 use Rattle.scope.specs.Held.{shapeOf}
 use Rattle.scope.specs.Once.{Once}
 use Rattle.scope.specs.Shape.{nodeAt}
 use Rattle.scope.specs.Visit.{State, tablesOf, told, start, first, each, nth, visits, sizes, built, selfed, selfIn}
-use Rattle.scope.specs.Law.{Reach-in, Tree-law, All-recorded}
+use Rattle.scope.specs.Law.{All-recorded, Blocks-hold-none, Only-expressions, Reach-in, Tree-law}
 use Rattle.scope.proofs.Once.{others}
+use Rattle.scope.proofs.Chains.{tree-of-scopes}
 use Rattle.scope.proofs.Fold.{total-more}
 use Rattle.scope.proofs.Laws.{falls-law, tree-law}
 use Rattle.scope.proofs.Ranges.{blanks}
 use Rattle.scope.proofs.Reach.{law, by-bindings}
 use Rattle.scope.proofs.Record.{recorded}
+use Rattle.scope.proofs.Whole.{blocks-hold-none, only-expressions, root-first}
 use Rattle.scope.proofs.Words.{in-words}
 use Rattle.scope.proofs.tables.ExprScopes.new_body.Needs as need
 
@@ -81,7 +84,13 @@ returns c =
     let reach : Reach-in b m z = subst (λ q. Reach-in b m q) is (law b m tree) in
     record {
       is-the-tree-of-the-visit = is;
+      fits-its-tables =
+        (omega (arith, length-map (take (va .scopes .len) (va .scopes .records)) bareScope, length-take (va .scopes .len) (va .scopes .records), va .scopes .few),
+        omega (arith, length-map (take (c .name-all .last .self .len) (c .name-all .last .self .records)) bareEntry, length-take (c .name-all .last .self .len) (c .name-all .last .self .records), c .name-all .last .self .few));
       records-every-expression = subst (λ q. All-recorded b m q) is (recorded b m tree);
+      records-nothing-else = subst (λ q. Only-expressions b q) is (only-expressions b m tree);
+      is-a-tree = tree-of-scopes (va .scopes) z refl (subst (λ q. getD (q .scopes) 0 noScope ≡ noScope) is (root-first b m tree));
+      gives-blocks-no-entry = subst Blocks-hold-none is (blocks-hold-none b m tree);
       sees-just-what-reaches = in-words b m z tree reach;
       holds-just-what-reaches = by-bindings b m z reach;
       names-each-entry = c .name-all .ensures .each-named
