@@ -1,7 +1,8 @@
-// Prints what body sheets hold, or why they are refused: those of the named files, or an example.
+// Prints what body sheets hold, with their scope trees, or why they are refused: those of the named files, or an example.
 mod example;
 mod listing;
 mod show;
+mod walk;
 
 use crate::example::EXAMPLE;
 use crate::listing::print_sheet;

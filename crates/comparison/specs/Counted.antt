@@ -14,12 +14,10 @@ pub record Counted (bs : List ℕ) (c : Counts) : Type 0 where
   pub past-frames : List ℕ
   pub past-scopes : List ℕ
   pub past-entries : List ℕ
-  pub scopes : ℕ
-  pub entries : ℕ
   pub sheet-is : Word bs (codes "sheet") past-sheet
   pub nodes-are : Labelled past-sheet (codes "nodes") (c .nodes) past-nodes
   pub bindings-are : Labelled past-nodes (codes "bindings") (c .bindings) past-bindings
   pub frames-are : Labelled past-bindings (codes "frames") (c .frames) past-frames
-  pub scopes-are : Labelled past-frames (codes "scopes") scopes past-scopes
-  pub entries-are : Labelled past-scopes (codes "entries") entries past-entries
+  pub scopes-are : Labelled past-frames (codes "scopes") (c .scopes) past-scopes
+  pub entries-are : Labelled past-scopes (codes "entries") (c .entries) past-entries
   pub ends : Without dark past-entries

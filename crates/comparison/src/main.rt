@@ -4,52 +4,67 @@ ghost use Prim.Native.Nat.{_+_, min};
 ghost use Rattle.std.specs.Vec.{made};
 ghost use mathlib.Core.Path.{_≡_};
 
+mod compared;
 mod counts;
+mod entries;
+mod expressions;
+mod makers;
+mod ranges;
 mod report;
+mod scopes;
+mod subjects;
 mod totals;
 mod words;
 
+use crate::compared::Compared;
+use crate::ranges::Ranges;
 use crate::report::Report;
+use crate::subjects::Subjects;
 use crate::totals::Totals;
 use crate::totals::TotalsDisplay;
 use crate::words::first_word;
+use scope::tables::ExprScopes;
 use sheet::body::Body;
 use std::fs;
 use std::io;
 
-// Each part of the body against the lines of the expectation that speak of it.
-fn compare_body(report: &mut Report, body: &Body, expect: &str) -> io::Result<()> {
+// The body and its scope tree against the lines of the expectation.
+fn compare_body(report: &mut Report, body: &Body, expect: &str) -> io::Result<Compared> {
+    let tree = ExprScopes::new_body(body);
     let mut lines = expect.lines();
-    counts::compare(report, body, lines.next().unwrap_or(""))
+    counts::compare(report, body, &tree, lines.next().unwrap_or(""))?;
+    let ranges = Ranges::read(report, lines.next().unwrap_or(""))?;
+    let mut subjects = Subjects::new(ranges);
+    for line in lines {
+        subjects.compare(report, body, &tree, line)?;
+    }
+    subjects.finish(report, body, &tree)
 }
 
-// Compares one sheet, and tells how many nodes it has; a sheet that is refused has none.
-fn compare_sheet(rt: &LibcRuntime, report: &mut Report) -> io::Result<usize> {
+// Compares one sheet, and tells how much of it was compared; a sheet that is refused has nothing.
+fn compare_sheet(rt: &LibcRuntime, report: &mut Report) -> io::Result<Compared> {
     let name = report.sheet();
     let bytes = fs::read(rt, format!(rt.alloc(), "{name}.body")?)?;
     let expect = fs::read_to_string(rt, format!(rt.alloc(), "{name}.expect")?)?;
     match Body::read(bytes.as_slice()) {
-        Ok(body) => {
-            compare_body(report, &body, expect.as_str())?;
-            Ok(body.node_count())
-        }
+        Ok(body) => compare_body(report, &body, expect.as_str()),
         Err(fault) => {
             report.refused(fault)?;
-            Ok(0)
+            Ok(Compared::nothing())
         }
     }
 }
 
 // Compares the sheet that a line of the index names. One that cannot be read differs too.
 fn compare_line(rt: &LibcRuntime, line: &str, totals: &mut Totals) -> io::Result<()>
-    ensures counts_the_sheet { λ r. ⌜ made r (λ _. now (totals .exit) .sheets ≡ min (now (totals .entry) .sheets + 1) 4294967295) ⌝ }
+    ensures counts_the_sheet { λ r. ⌜ made r (λ _. now (totals .exit) .sheets .all ≡ min (now (totals .entry) .sheets .all + 1) 4294967295) ⌝ }
 {
     let mut report = Report::new(rt, first_word(line));
     match compare_sheet(rt, &mut report) {
-        Ok(nodes) => totals.count(nodes, report.differences()),
+        Ok(compared) => totals.count(compared, report.differences()),
         Err(error) => {
             report.failed(error)?;
-            totals.count(0, report.differences());
+            totals.count(Compared::nothing(), report.differences());
         }
     }
     Ok(())

@@ -2,6 +2,7 @@
 ghost use Prim.Native.Nat.{_+_, min};
 ghost use mathlib.Core.Path.{_≡_};
 use format::fault::Fault;
+use std::fmt;
 use std::io;
 
 #[derive(Drop)]
@@ -12,7 +13,7 @@ pub struct Report<'r, 's> {
 }
 
 impl<'r, 's> Report<'r, 's> {
-    pub fn new(rt: &'r LibcRuntime, sheet: &'s str) -> Report<'r, 's>
+    pub(crate) fn new(rt: &'r LibcRuntime, sheet: &'s str) -> Report<'r, 's>
         ensures no_difference_yet { λ r. ⌜ r .differences ≡ 0 ⌝ }
     {
         Report {
@@ -23,11 +24,11 @@ impl<'r, 's> Report<'r, 's> {
     }
 
     // The name of the sheet.
-    pub fn sheet(&self) -> &'s str {
+    pub(crate) fn sheet(&self) -> &'s str {
         self.sheet
     }
 
-    pub fn differences(&self) -> u32
+    pub(crate) fn differences(&self) -> u32
         ensures is_the_count { λ r. ⌜ r ≡ now (self .entry) .differences ⌝ }
     {
         self.differences
@@ -40,7 +41,7 @@ impl<'r, 's> Report<'r, 's> {
     }
 
     // A number that should be what is expected.
-    pub fn compare(&mut self, what: &str, expected: usize, got: usize) -> io::Result<()>
+    pub(crate) fn compare(&mut self, what: &str, expected: usize, got: usize) -> io::Result<()>
         ensures counts_none_where_equal { λ _. ⌜ (expected ≡ got → now (self .exit) .differences ≡ now (self .entry) .differences) ⌝ }
         ensures counts_one_elsewhere { λ _. ⌜ ((expected ≡ got → ⊥) → now (self .exit) .differences ≡ min (now (self .entry) .differences + 1) 4294967295) ⌝ }
     {
@@ -52,8 +53,21 @@ impl<'r, 's> Report<'r, 's> {
         println!(self.rt, "{sheet}: {what}: expected {expected}, got {got}")
     }
 
+    // A thing that is not what is expected.
+    pub(crate) fn differs<E: fmt::Display + Drop, G: fmt::Display + Drop>(
+        &mut self,
+        expected: E,
+        got: G,
+    ) -> io::Result<()>
+        ensures counts_one { λ _. ⌜ now (self .exit) .differences ≡ min (now (self .entry) .differences + 1) 4294967295 ⌝ }
+    {
+        self.count();
+        let sheet = self.sheet;
+        println!(self.rt, "{sheet}: expected {expected}, got {got}")
+    }
+
     // A sheet that should have been accepted.
-    pub fn refused(&mut self, fault: Fault) -> io::Result<()>
+    pub(crate) fn refused(&mut self, fault: Fault) -> io::Result<()>
         ensures counts_one { λ _. ⌜ now (self .exit) .differences ≡ min (now (self .entry) .differences + 1) 4294967295 ⌝ }
     {
         self.count();
@@ -68,7 +82,7 @@ impl<'r, 's> Report<'r, 's> {
     }
 
     // A sheet or an expectation that cannot be read.
-    pub fn failed(&mut self, error: io::Error) -> io::Result<()>
+    pub(crate) fn failed(&mut self, error: io::Error) -> io::Result<()>
         ensures counts_one { λ _. ⌜ now (self .exit) .differences ≡ min (now (self .entry) .differences + 1) 4294967295 ⌝ }
     {
         self.count();
@@ -77,7 +91,7 @@ impl<'r, 's> Report<'r, 's> {
     }
 
     // A line of the expectation that does not say what it should.
-    pub fn unreadable(&mut self, line: &str) -> io::Result<()>
+    pub(crate) fn unreadable(&mut self, line: &str) -> io::Result<()>
         ensures counts_one { λ _. ⌜ now (self .exit) .differences ≡ min (now (self .entry) .differences + 1) 4294967295 ⌝ }
     {
         self.count();

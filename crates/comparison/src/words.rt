@@ -14,7 +14,7 @@ fn number(word: &str) -> Option<usize>
 }
 
 // The first word of a line, and no text for a blank line.
-pub fn first_word(line: &str) -> &str
+pub(crate) fn first_word(line: &str) -> &str
     ensures has_no_white_space { λ r. ⌜ Without white (now r) ⌝ }
 {
     match line.split_whitespace().next() {
@@ -29,7 +29,7 @@ pub struct Words<'a> {
 }
 
 impl<'a> Words<'a> {
-    pub fn new(line: &'a str) -> Words<'a>
+    pub(crate) fn new(line: &'a str) -> Words<'a>
         ensures has_the_whole_line { λ r. ⌜ split-whitespace-rest (r .rest) ≡ now (line .entry) ⌝ }
     {
         Words {
@@ -37,7 +37,14 @@ impl<'a> Words<'a> {
         }
     }
 
-    pub fn number(&mut self) -> Option<usize>
+    // The next word, if there is one.
+    pub(crate) fn take(&mut self) -> Option<&'a str>
+        ensures is_the_next_word { λ r. ⌜ BySome r (Unit {0}) (λ w. Word (split-whitespace-rest (now (self .entry) .rest)) (now w) (split-whitespace-rest (now (self .exit) .rest))) ⌝ }
+    {
+        self.rest.next()
+    }
+
+    pub(crate) fn number(&mut self) -> Option<usize>
         ensures reads_the_next_word { λ r. ⌜ BySome r (Unit {0}) (λ n. Number (split-whitespace-rest (now (self .entry) .rest)) n (split-whitespace-rest (now (self .exit) .rest))) ⌝ }
     {
         let Some(word) = self.rest.next() else {
@@ -47,7 +54,7 @@ impl<'a> Words<'a> {
     }
 
     // Passes over the next word; none where it is another word than this.
-    pub fn word(&mut self, expected: &str) -> Option<()>
+    pub(crate) fn word(&mut self, expected: &str) -> Option<()>
         ensures passes_that_word { λ r. ⌜ BySome r (Unit {0}) (λ _. Word (split-whitespace-rest (now (self .entry) .rest)) (now (expected .entry)) (split-whitespace-rest (now (self .exit) .rest))) ⌝ }
     {
         let Some(word) = self.rest.next() else {
@@ -57,7 +64,7 @@ impl<'a> Words<'a> {
     }
 
     // The number after this word.
-    pub fn number_after(&mut self, expected: &str) -> Option<usize>
+    pub(crate) fn number_after(&mut self, expected: &str) -> Option<usize>
         ensures reads_word_and_number { λ r. ⌜ BySome r (Unit {0}) (λ n. Labelled (split-whitespace-rest (now (self .entry) .rest)) (now (expected .entry)) n (split-whitespace-rest (now (self .exit) .rest))) ⌝ }
     {
         self.word(expected)?;
@@ -65,7 +72,7 @@ impl<'a> Words<'a> {
     }
 
     // Nothing, at the end of the line; none where a word is left.
-    pub fn end(&mut self) -> Option<()>
+    pub(crate) fn end(&mut self) -> Option<()>
         ensures no_word_is_left { λ r. ⌜ BySome r (Unit {0}) (λ _. Without dark (split-whitespace-rest (now (self .entry) .rest))) ⌝ }
     {
         match self.rest.next() {

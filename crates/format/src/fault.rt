@@ -70,7 +70,7 @@ impl Part {
     }
 
     // How many bytes a record of the section has.
-    pub fn width(self) -> usize
+    pub(crate) fn width(self) -> usize
         ensures is_the_sections_width { λ r. ⌜ r ≡ widthOf self ⌝ }
     {
         match self {
@@ -83,7 +83,7 @@ impl Part {
     }
 
     // The fewest records that the section may have.
-    pub fn least(self) -> usize
+    pub(crate) fn least(self) -> usize
         ensures is_the_sections_least { λ r. ⌜ r ≡ leastOf self ⌝ }
     {
         match self {
@@ -93,7 +93,7 @@ impl Part {
     }
 
     // The most records that the section may have.
-    pub fn most(self) -> usize
+    pub(crate) fn most(self) -> usize
         ensures is_the_sections_most { λ r. ⌜ r ≡ mostOf self ⌝ }
     {
         match self {

@@ -153,7 +153,7 @@ fn arm_slot(place: usize) -> Slot
 
 impl NodeKind {
     // The kind's number in a sheet.
-    pub fn code(self) -> u8
+    pub(crate) fn code(self) -> u8
         ensures is_written_so { λ r. ⌜ r ≡ writes self .code ⌝ }
     {
         match self {
@@ -187,7 +187,7 @@ impl NodeKind {
     }
 
     // Field a as a sheet writes it.
-    pub fn field_a(self) -> u32
+    pub(crate) fn field_a(self) -> u32
         ensures is_written_so { λ r. ⌜ r ≡ writes self .a ⌝ }
     {
         match self {
@@ -202,7 +202,7 @@ impl NodeKind {
     }
 
     // Field b as a sheet writes it.
-    pub fn field_b(self) -> u32
+    pub(crate) fn field_b(self) -> u32
         ensures is_written_so { λ r. ⌜ r ≡ writes self .b ⌝ }
     {
         match self {
@@ -213,7 +213,7 @@ impl NodeKind {
     }
 
     // Whether what the kind names is there, in a sheet of so many bindings.
-    pub fn is_named(self, bindings: u32) -> bool
+    pub(crate) fn is_named(self, bindings: u32) -> bool
         ensures all_it_names_is_there { λ r. ⌜ r ≡ named bindings self ⌝ }
     {
         match self {
@@ -228,7 +228,7 @@ impl NodeKind {
     }
 
     // Whether a node of the kind may have so many children, absent ones counted.
-    pub fn count_fits(self, count: u16) -> bool
+    pub(crate) fn count_fits(self, count: u16) -> bool
         ensures by_the_kind { λ r. ⌜ r ≡ countFits self count ⌝ }
     {
         match self {

@@ -34,7 +34,7 @@ impl<'a> Section<'a> {
         }
     }
 
-    pub fn part(&self) -> Part
+    pub(crate) fn part(&self) -> Part
         ensures is_its_part { λ r. ⌜ r ≡ partOf (now (self .entry)) ⌝ }
     {
         match *self {

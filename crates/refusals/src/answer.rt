@@ -18,7 +18,7 @@ pub struct Answer {
 }
 
 impl Answer {
-    pub fn of(fault: Option<Fault>) -> Answer
+    pub(crate) fn of(fault: Option<Fault>) -> Answer
         ensures zeros_or_the_faults_numbers { λ r. ⌜ r ≡ told fault ⌝ }
     {
         match fault {
@@ -43,7 +43,7 @@ pub impl fmt::Display for Answer as AnswerDisplay {
 }
 
 // Why the reader refuses a sheet; none for one that it accepts.
-pub fn fault_of(bytes: &[u8]) -> Option<Fault>
+pub(crate) fn fault_of(bytes: &[u8]) -> Option<Fault>
     ensures none_applies_or_the_first_cause { λ r. ⌜ BySome r (None-apply (Applies (now (bytes .entry)))) (First (Applies (now (bytes .entry)))) ⌝ }
 {
     match Body::read(bytes) {

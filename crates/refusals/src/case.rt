@@ -53,7 +53,7 @@ fn last_numbers(mut words: SplitWhitespace) -> Option<Answer>
 
 impl Case<'_> {
     // The case of a line; none where the line is not four words, the last three being numbers.
-    pub fn parse(line: &str) -> Option<Case<'_>>
+    pub(crate) fn parse(line: &str) -> Option<Case<'_>>
         ensures is_what_the_line_states { λ r. ⌜ BySome r (Unit {0}) (λ c. States (now (line .entry)) (now (c .name)) (c .expected)) ⌝ }
     {
         let mut words = line.split_whitespace();

@@ -25,7 +25,7 @@ pub enum Outcome<'a> {
 }
 
 impl Outcome<'_> {
-    pub fn agrees(&self) -> bool
+    pub(crate) fn agrees(&self) -> bool
         ensures in_one_way_only { λ r. ⌜ elim (now (self .entry)) [ Agrees f ↦ r ≡ true | Differs c g ↦ r ≡ false | NoSheet c e ↦ r ≡ false | NoCase l ↦ r ≡ false ] ⌝ }
     {
         match self {
@@ -36,7 +36,7 @@ impl Outcome<'_> {
 }
 
 // What the reader answers to the bytes, against what the case states.
-pub fn compare<'a>(case: Case<'a>, bytes: &[u8]) -> Outcome<'a>
+pub(crate) fn compare<'a>(case: Case<'a>, bytes: &[u8]) -> Outcome<'a>
     ensures agrees_where_all_numbers_do { λ r. ⌜ elim r [ Agrees f ↦ told f ≡ case .entry .expected | Differs c g ↦ (g ≡ case .entry .expected → ⊥) | NoSheet c e ↦ ⊥ | NoCase l ↦ ⊥ ] ⌝ }
 {
     let fault = fault_of(bytes);

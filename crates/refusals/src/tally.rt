@@ -32,7 +32,7 @@ fn row(fault: Option<Fault>) -> usize
 }
 
 impl Tally {
-    pub fn new() -> Tally
+    pub(crate) fn new() -> Tally
         ensures nothing_counted { λ r. ⌜ (r .cases ≡ 0) × (r .differ ≡ 0) ⌝ }
     {
         Tally {
@@ -43,7 +43,7 @@ impl Tally {
     }
 
     // Counts one case, as agreeing under its number or as differing.
-    pub fn count(&mut self, outcome: &Outcome)
+    pub(crate) fn count(&mut self, outcome: &Outcome)
         ensures counts_the_case { λ _. ⌜ now (self .exit) .cases ≡ min (now (self .entry) .cases + 1) 4294967295 ⌝ }
         ensures counts_what_agrees { λ _. ⌜ elim (now (outcome .entry)) [ Agrees f ↦ now (self .exit) .agree ≡ set (now (self .entry) .agree) (rowOf f) (min (getD (now (self .entry) .agree) (rowOf f) 0 + 1) 4294967295) | Differs c g ↦ now (self .exit) .agree ≡ now (self .entry) .agree | NoSheet c e ↦ now (self .exit) .agree ≡ now (self .entry) .agree | NoCase l ↦ now (self .exit) .agree ≡ now (self .entry) .agree ] ⌝ }
         ensures counts_what_differs { λ _. ⌜ elim (now (outcome .entry)) [ Agrees f ↦ now (self .exit) .differ ≡ now (self .entry) .differ | Differs c g ↦ now (self .exit) .differ ≡ min (now (self .entry) .differ + 1) 4294967295 | NoSheet c e ↦ now (self .exit) .differ ≡ min (now (self .entry) .differ + 1) 4294967295 | NoCase l ↦ now (self .exit) .differ ≡ min (now (self .entry) .differ + 1) 4294967295 ] ⌝ }

@@ -14,3 +14,4 @@ pub mod Laws
 pub mod Ranges
 pub mod Own
 pub mod Chains
+pub mod Examples

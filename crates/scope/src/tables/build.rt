@@ -1,6 +1,7 @@
 // The scope tree of a whole body.
 ghost use Prim.Native.Nat.{ℕ, _+_, _<_, _≤_};
 ghost use Rattle.scope.specs.Blank.{bareEntry};
+ghost use Rattle.scope.specs.Examples.{Examples-hold};
 ghost use Rattle.scope.specs.Held.{shapeOf};
 ghost use Rattle.scope.specs.Law.{All-recorded, Blocks-hold-none, Entries-in, Only-expressions, Tree-of-scopes};
 ghost use Rattle.scope.specs.Named.{Named, nameOf, noEntry, renamed};
@@ -104,6 +105,7 @@ impl ExprScopes {
         ensures sees_just_what_reaches { λ r. ⌜ Reach-law (shapeOf (now (body .entry))) (length (nodesOf (now (body .entry)))) (told r) ⌝ }
         ensures holds_just_what_reaches { λ r. ⌜ Entries-in (shapeOf (now (body .entry))) (length (nodesOf (now (body .entry)))) (told r) ⌝ }
         ensures names_each_entry { λ r. ⌜ Named (bindingsOf (now (body .entry))) (take (r .entries .len) (r .entries .records)) ⌝ }
+        ensures is_defined_as_worked_out { λ _. ⌜ Examples-hold ⌝ }
     {
         let mut tree = ExprScopes { scopes: Scopes::root(), entries: Entries::new(), recorded: Recorded::new() };
         let at = Place { current: ScopeId(1), constant: ScopeId(1) };

@@ -156,9 +156,9 @@ impl ExprScopes {
             NodeKind::Let => {
                 self.place(n, at.current);
                 self.visit_at(body, n, 1, at);
-                let opened = self.deepen(ScopeKind::Plain, at);
-                self.visit_at(body, n, 0, opened);
-                opened
+                let bound = self.deepen(ScopeKind::Plain, at);
+                self.visit_at(body, n, 0, bound);
+                bound
             }
             NodeKind::Block { id, label } => {
                 self.place(n, at.current);

@@ -21,14 +21,12 @@ returns c =
             past-frames = _;
             past-scopes = _;
             past-entries = _;
-            scopes = c .in-Continue--scopes .-scopes;
-            entries = c .in-Continue--entries .-entries;
             sheet-is = same-line (c .new-words .ensures .has-the-whole-line) (c .in-Continue-word .ensures tt .passes-that-word);
             nodes-are = c .in-Continue-nodes .ensures tt .reads-word-and-number;
             bindings-are = c .in-Continue-bindings .ensures tt .reads-word-and-number;
             frames-are = c .in-Continue-frames .ensures tt .reads-word-and-number;
-            scopes-are = c .in-Continue--scopes .ensures tt .reads-word-and-number;
-            entries-are = c .in-Continue--entries .ensures tt .reads-word-and-number;
+            scopes-are = c .in-Continue-scopes .ensures tt .reads-word-and-number;
+            entries-are = c .in-Continue-entries .ensures tt .reads-word-and-number;
             ends = c .in-Continue-end .ensures tt .no-word-is-left;
           };
     }

@@ -39,7 +39,7 @@ visit-returns-in-If t c =
 pub visit-returns-in-Let : need.visit-returns-in-Let
 unfolding step
 visit-returns-in-Let t c =
-    record { is = ap (λ f. f (c .args .at) (told (c .args .self .now))) (c .look-node .ensures .means ∙ ap (λ k. step (c .args .n .raw) k (visits (shapeOf (c .args .body .now)) (c .args .n .raw))) (c .in-Let .is)) ∙ (rw (c .place-in-Let .ensures .is, c .visit-at-in-Let .ensures .is, c .deepen-opened-in-Let .ensures .is, c .visit-at-in-Let-2 .ensures .is)); grown = omega arith }
+    record { is = ap (λ f. f (c .args .at) (told (c .args .self .now))) (c .look-node .ensures .means ∙ ap (λ k. step (c .args .n .raw) k (visits (shapeOf (c .args .body .now)) (c .args .n .raw))) (c .in-Let .is)) ∙ (rw (c .place-in-Let .ensures .is, c .visit-at-in-Let .ensures .is, c .deepen-bound .ensures .is, c .visit-at-in-Let-2 .ensures .is)); grown = omega arith }
 
 pub visit-returns-in-Block : need.visit-returns-in-Block
 unfolding step

@@ -12,6 +12,7 @@ use Rattle.scope.specs.Once.{Once}
 use Rattle.scope.specs.Shape.{nodeAt}
 use Rattle.scope.specs.Visit.{State, tablesOf, told, start, first, each, nth, visits, sizes, built, selfed, selfIn}
 use Rattle.scope.specs.Law.{All-recorded, Blocks-hold-none, Only-expressions, Reach-in, Tree-law}
+use Rattle.scope.proofs.Examples.{examples-hold}
 use Rattle.scope.proofs.Once.{others}
 use Rattle.scope.proofs.Chains.{tree-of-scopes}
 use Rattle.scope.proofs.Fold.{total-more}
@@ -93,5 +94,6 @@ returns c =
       gives-blocks-no-entry = subst Blocks-hold-none is (blocks-hold-none b m tree);
       sees-just-what-reaches = in-words b m z tree reach;
       holds-just-what-reaches = by-bindings b m z reach;
-      names-each-entry = c .name-all .ensures .each-named
+      names-each-entry = c .name-all .ensures .each-named;
+      is-defined-as-worked-out = examples-hold
     }
