@@ -33,16 +33,18 @@ module _ (t : Scopes) (s : State) (is : s .scopes ≡ map bareScope (take (t .le
   lower c p h e =
       let n = ap parentOf (sym (parent-in c h) ∙ e) in
       let lt : c - 1 < t .len = omega (arith, h, in-table c h) in
-      elim (cases-eq (c - 1) 0)
-      [ inl z ↦ absurd (none-some p (sym (ap (λ i. getD (s .scopes) i noScope .parent) z ∙ ap (λ r. r .parent) root) ∙ e))
-      | inr z ↦ (omega (arith, n, t .rooted (c - 1) (omega (arith, z)) lt), omega (arith, n, t .sloping (c - 1) lt, h)) ]
+      elim (cases-eq (c - 1) 0) [
+        | inl z ↦ absurd (none-some p (sym (ap (λ i. getD (s .scopes) i noScope .parent) z ∙ ap (λ r. r .parent) root) ∙ e))
+        | inr z ↦ (omega (arith, n, t .rooted (c - 1) (omega (arith, z)) lt), omega (arith, n, t .sloping (c - 1) lt, h))
+      ]
 
   alone : (c : ℕ) → Is-in s c → getD (s .scopes) (c - 1) noScope .parent ≡ None → c ≡ 1
   alone c h e =
       let n = ap parentOf (sym (parent-in c h) ∙ e) in
-      elim (cases-eq (c - 1) 0)
-      [ inl z ↦ omega (arith, h)
-      | inr z ↦ absurd (omega (arith, n, t .rooted (c - 1) (omega (arith, z)) (omega (arith, h, in-table c h)))) ]
+      elim (cases-eq (c - 1) 0) [
+        | inl z ↦ omega (arith, h)
+        | inr z ↦ absurd (omega (arith, n, t .rooted (c - 1) (omega (arith, z)) (omega (arith, h, in-table c h))))
+      ]
 
   chain-by : (c : ℕ) → Is-in s c → ((d : ℕ) → d < c → Is-in s d → On-chain s 1 d) → (o : Option ScopeId) → getD (s .scopes) (c - 1) noScope .parent ≡ o → On-chain s 1 c
   chain-by c h ih None e = subst (On-chain s 1) (sym (alone c h e)) itself

@@ -29,11 +29,9 @@ use Rattle.scope.specs.Law.{bound, held, Sight, binds, leaves, gathered, joine
 use Rattle.scope.specs.Words.{twice}
 use Rattle.scope.specs.Tables.{isExpr, kids, kid, kindOf, patternAt, turn}
 use Rattle.scope.proofs.Runs.{View, Fair, Stands, Run, view-in, run-view, run-none, run-then, run-at, run-put, run-added, run-made, made-fair, made-kept, made-view}
-
 use Rattle.scope.proofs.Good.{Here, After, Good, Goods, within, here-run, here-const, here-made, quiet, done, Each, each-good, all-good, good-none, good-at, good-drop, good-others, quiet-all}
 use Rattle.std.proofs.shelf.Lists.{getD-drop}
 use Rattle.std.proofs.shelf.Tests.{both-ways}
-
 
 -- what is known where a node n of kind k is visited with the binds xs in sight
 pub record Given (b : Shape) (m n : ℕ) (k : NodeKind) (vs : List Visit) (xs : List ℕ) : Type 0 where
@@ -200,8 +198,11 @@ both b m n vs at s ns xs g h =
     let c = good-at (g .goods) 1 (r1 .1) (r1 .0) (a .names) (leaves b (kid b n 0) ++ xs) (a .there) (g .sights 1) in
     let t = nth vs 1 (r1 .1) (r1 .0) in
     let l : leaves b (kid b n 1) ++ (leaves b (kid b n 0) ++ xs) ≡ (getD (map (leaves b) (kids b n)) 1 [] ++ getD (map (leaves b) (kids b n)) 0 []) ++ xs = sym (ap (λ k. (k ++ getD (map (leaves b) (kids b n)) 0 []) ++ xs) (leaves-at b (kids b n) 1) ∙ ap (λ k. (leaves b (kid b n 1) ++ k) ++ xs) (leaves-at b (kids b n) 0) ∙ append-assoc (leaves b (kid b n 1)) (leaves b (kid b n 0)) xs) in
-    record { names = c .names; run = run-then (within h) r (run-then (within h0) (quiet (at .current .0) (g .plain 0 refl) (a .run)) (quiet (at .current .0) (g .plain 1 refl) (c .run)));
-             there = subst (λ k. Here b m (t .1) (t .0) (c .names) k) l (c .there) }
+    record {
+      names = c .names;
+      run = run-then (within h) r (run-then (within h0) (quiet (at .current .0) (g .plain 0 refl) (a .run)) (quiet (at .current .0) (g .plain 1 refl) (c .run)));
+      there = subst (λ k. Here b m (t .1) (t .0) (c .names) k) l (c .there);
+    }
 
 if : (b : Shape) (m n : ℕ) → Steps b m n If
 unfolding step inner made put
@@ -314,9 +315,11 @@ macro b m n x vs at s ns xs g h =
     let h1 = here-made k [] h in
     let h2 = here-apart k h1 in
     let t = made k (at .constant) (o .0) .0 in
-    record { names = (ns ++ ([] ∷ [])) ++ ([] ∷ []);
-             run = run-made (at .current .0) k (at .current) s ns [] (λ _. refl) (h .fair) (run-made (o .1 .current .0) k (at .constant) (o .0) (ns ++ ([] ∷ [])) [] (λ _. refl) (h1 .fair) (run-none b m (length (o .0 .scopes) + 1) t ((ns ++ ([] ∷ [])) ++ ([] ∷ [])) (h2 .fair)));
-             there = h2 }
+    record {
+      names = (ns ++ ([] ∷ [])) ++ ([] ∷ []);
+      run = run-made (at .current .0) k (at .current) s ns [] (λ _. refl) (h .fair) (run-made (o .1 .current .0) k (at .constant) (o .0) (ns ++ ([] ∷ [])) [] (λ _. refl) (h1 .fair) (run-none b m (length (o .0 .scopes) + 1) t ((ns ++ ([] ∷ [])) ++ ([] ∷ [])) (h2 .fair)));
+      there = h2;
+    }
 
 closure : (b : Shape) (m n : ℕ) → Steps b m n Closure
 unfolding step inner made

@@ -86,8 +86,11 @@ all-good {b} {m} (more {c = c} {v = v} {cs = cs} {vs = vs} x y) at s ns xs h g q
     let a = x at s ns xs h (g 0) in
     let r = all-good y (v at s .1) (v at s .0) (a .names) (leaves b c ++ xs) (a .there) (λ j. subst (λ k. Sight b m (getD cs j 0) k) (append-assoc (gathered b (take j cs)) (leaves b c) xs) (g (suc j))) (λ j. q (suc j)) in
     let t = all vs (v at s .1) (v at s .0) in
-    record { names = r .names; run = run-then (within h) (quiet (at .current .0) (q 0) (a .run)) (run-at (at .current .0) (r .run));
-             there = subst (λ k. Here b m (t .1) (t .0) (r .names) k) (sym (append-assoc (gathered b cs) (leaves b c) xs)) (r .there) }
+    record {
+      names = r .names;
+      run = run-then (within h) (quiet (at .current .0) (q 0) (a .run)) (run-at (at .current .0) (r .run));
+      there = subst (λ k. Here b m (t .1) (t .0) (r .names) k) (sym (append-assoc (gathered b cs) (leaves b c) xs)) (r .there);
+    }
 
 pub good-none : (b : Shape) (m : ℕ) → Good b m 0 skip
 unfolding binds leaves

@@ -97,14 +97,15 @@ pattern-place (Block a l) (suc i) e = absurd (omega (arith, e, ap (λ b. sortNum
 pattern-place (Loop l) i e = absurd (omega arith)
 pattern-place Closure zero e = absurd (omega arith)
 pattern-place Closure (suc zero) e = absurd (omega arith)
-pattern-place Closure (suc (suc i)) e = elim (halves i)
-    [ inl p ↦ ap (λ j. turn j true false) (p .1) ∙ turn-twice (p .0) true false
-    | inr p ↦
+pattern-place Closure (suc (suc i)) e = elim (halves i) [
+  | inl p ↦ ap (λ j. turn j true false) (p .1) ∙ turn-twice (p .0) true false
+  | inr p ↦
       let d = doubled (p .0) in
       let o : (suc (suc i)) % 2 ≡ 1 = omega (arith, p .1, d) in
       let y = cond (eqb ((suc (suc i)) % 2) 1) (slot S.Type true) (slot S.Pattern false) in
       let z : sortNumber (slotAt Closure (suc (suc i)) .sort) ≡ 2 = ap (λ b. sortNumber (cond b (slot S.Expression false) y .sort)) (later (suc i)) ∙ ap (λ b. sortNumber (cond b (slot S.Type true) (slot S.Pattern false) .sort)) (eq-eqb ((suc (suc i)) % 2) 1 o) in
-      absurd (omega (arith, z, e)) ]
+      absurd (omega (arith, z, e))
+]
 pattern-place Match zero e = absurd (omega arith)
 pattern-place Match (suc i) e = absurd (omega (arith, e, pick-later S.Expression S.Arm i))
 pattern-place Const i e = absurd (omega arith)
@@ -131,11 +132,12 @@ pattern-place (Body x) zero e = absurd (omega arith)
 pattern-place (Body x) (suc i) e = refl
 
 suited : (k c : NodeKind) (i : ℕ) → sameSort (sortOf c) (slotAt k i .sort) ≡ true → unless (patternAt k i) (binding c) ≡ true
-suited k c i e = elim (cases-bool (binding c))
-    [ inl b ↦
+suited k c i e = elim (cases-bool (binding c)) [
+  | inl b ↦
       let s : sortNumber (slotAt k i .sort) ≡ 1 = sym (eqb-true (sortNumber (sortOf c)) (sortNumber (slotAt k i .sort)) e) ∙ pattern-sort c b in
       ap (λ x. unless x (binding c)) (pattern-place k i s)
-    | inr b ↦ ap (unless (patternAt k i)) b ∙ pick (patternAt k i) ]
+  | inr b ↦ ap (unless (patternAt k i)) b ∙ pick (patternAt k i)
+]
   where
     pick : (x : Bool) → unless x false ≡ true
     pick true = refl
@@ -184,9 +186,10 @@ module _ (b : Sheet-body) where
   child-number i j = getD-map-any numberOf cs (getD ns i blank .first + j) None
 
   pub falls-law : Below ns cs
-  falls-law k i h l = elim (cases-lt k last)
-      [ inl q ↦ omega (arith, child-number k i, b .lower k i q l)
-      | inr q ↦ absurd (omega (arith, l, ap (λ n. n .count) (getD-past ns k blank q))) ]
+  falls-law k i h l = elim (cases-lt k last) [
+    | inl q ↦ omega (arith, child-number k i, b .lower k i q l)
+    | inr q ↦ absurd (omega (arith, l, ap (λ n. n .count) (getD-past ns k blank q)))
+  ]
 
   -- the children of the nodes up to k are the first of all children
   children-to : (j : ℕ) → 0 < j → (k : ℕ) → k ≤ last → times j (childrenTo (shapeOf b) k) ≡ times j (map numberOf (take (total (take k ns)) cs))
@@ -200,7 +203,7 @@ module _ (b : Sheet-body) where
       let g : suc k ≡ k + 1 = omega arith in
       let split : map numberOf (take (f + n .count) cs) ≡ map numberOf (take f cs) ++ map numberOf (take (n .count) (drop f cs)) = ap (map numberOf) (take-plus f (n .count) cs) ∙ map-append numberOf (take f cs) (take (n .count) (drop f cs)) in
       let here : times j (numbers (childrenOf (shapeOf b) (suc k))) ≡ times j (map numberOf (take (n .count) (drop f cs))) =
-            times-numbers j z (childrenOf (shapeOf b) (suc k)) ∙ (ap (λ i. times j (map numberOf (take (getD ns i blank .count) (drop (getD ns i blank .first) cs)))) s ∙ ap (λ i. times j (map numberOf (take (n .count) (drop i cs)))) o) in
+      times-numbers j z (childrenOf (shapeOf b) (suc k)) ∙ (ap (λ i. times j (map numberOf (take (getD ns i blank .count) (drop (getD ns i blank .first) cs)))) s ∙ ap (λ i. times j (map numberOf (take (n .count) (drop i cs)))) o) in
       let left = times-append j (childrenTo (shapeOf b) k) (numbers (childrenOf (shapeOf b) (suc k))) in
       let right = ap (times j) split ∙ times-append j (map numberOf (take f cs)) (map numberOf (take (n .count) (drop f cs))) in
       let at = ap (λ i. times j (map numberOf (take (total (take i ns)) cs))) g ∙ ap (λ i. times j (map numberOf (take i cs))) e in
@@ -238,17 +241,19 @@ module _ (b : Sheet-body) where
   fits-law : Fits (shapeOf b) last
   fits-law n i l =
       let k = kindOf (shapeOf b) (suc n) in
-      elim (cases-lt i (getD ns n blank .count))
-      [ inl h ↦
-        let c = sheetChild (treeOf b) n i in
-        let a = sym (cond-true _ _ true (lt-ltb i (getD ns n blank .count) h)) ∙ b .admitted n i l in
-        subst (λ x. suits (shapeOf b) k i x ≡ true) (sym (kid-at n i h))
-        (elim (cases-eq c 0)
-        [ inl z ↦ suits-none k i c z
-        | inr z ↦
-          let q = sym (ap (λ x. admits (slotAt (getD ns n blank .kind) i) x) (cond-false (eqb c 0) None (Some (sortOf (getD ns (c - 1) blank .kind))) (ne-eqb c 0 z))) ∙ a in
-          suits-some k i c (omega (arith, z)) (ap (λ x. sameSort (sortOf (getD ns (c - 1) blank .kind)) (slotAt x i .sort)) (kind-at n) ∙ q) ])
-      | inr h ↦ suits-none k i (kid (shapeOf b) (suc n) i) (kid-past n i h) ]
+      elim (cases-lt i (getD ns n blank .count)) [
+        | inl h ↦
+            let c = sheetChild (treeOf b) n i in
+            let a = sym (cond-true _ _ true (lt-ltb i (getD ns n blank .count) h)) ∙ b .admitted n i l in
+            subst (λ x. suits (shapeOf b) k i x ≡ true) (sym (kid-at n i h))
+            (elim (cases-eq c 0) [
+              | inl z ↦ suits-none k i c z
+              | inr z ↦
+                  let q = sym (ap (λ x. admits (slotAt (getD ns n blank .kind) i) x) (cond-false (eqb c 0) None (Some (sortOf (getD ns (c - 1) blank .kind))) (ne-eqb c 0 z))) ∙ a in
+                  suits-some k i c (omega (arith, z)) (ap (λ x. sameSort (sortOf (getD ns (c - 1) blank .kind)) (slotAt x i .sort)) (kind-at n) ∙ q)
+            ])
+        | inr h ↦ suits-none k i (kid (shapeOf b) (suc n) i) (kid-past n i h)
+      ]
 
   full-law : Full (shapeOf b) last
   unfolding kids
@@ -265,10 +270,10 @@ module _ (b : Sheet-body) where
   -- a body keeps the laws of a tree
   pub tree-law : Tree-law (shapeOf b) last
   tree-law = record {
-      size = (omega (arith, b .some), listed-few (b .nodes));
-      below = falls-law;
-      once = once-law;
-      fits = fits-law;
-      full = full-law;
-      body = b .«body_last» (last - 1) (omega (arith, b .some)) ∙ eq-eqb (last - 1 + 1) last (omega (arith, b .some))
-    }
+    size = (omega (arith, b .some), listed-few (b .nodes));
+    below = falls-law;
+    once = once-law;
+    fits = fits-law;
+    full = full-law;
+    body = b .«body_last» (last - 1) (omega (arith, b .some)) ∙ eq-eqb (last - 1 + 1) last (omega (arith, b .some));
+  }

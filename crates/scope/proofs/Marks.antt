@@ -31,9 +31,7 @@ use Rattle.scope.proofs.EachKind.{tail-at, others-at}
 use Rattle.std.proofs.shelf.Lists.{getD-set-same, getD-set-other, length-set}
 use Rattle.std.proofs.shelf.Tests.{cases-eq}
 use Rattle.scope.specs.Tables.{isExpr, most, kids, kid, kindOf, patternAt, turn}
-
 use Rattle.std.proofs.shelf.Lists.{getD-drop}
-
 
 -- e stands at n or below it
 pub data Under (b : Shape) (e : ℕ) : ℕ → Type 0 where
@@ -57,11 +55,16 @@ no-under b e n q (down c i z u) = absurd (omega arith)
 
 put-marks : {f : Type 0} {e : ℕ} (n : ℕ) (p : ScopeId) (s : State) → 0 < n → n ≤ 512 → Marked f e s → Marked (f ⊎ (n ≡ e)) e (put n p s)
 unfolding put
-put-marks {f} {e} n p s z l h = record { wide = length-set (s .placed) (n - 1) (Some p) ∙ h .wide; marks = λ x. elim x
-    [ inl k ↦ elim (cases-eq (e - 1) (n - 1))
-        [ inl q ↦ (p, at-it q)
-        | inr q ↦ let r = h .marks k in (r .0, getD-set-other (s .placed) (n - 1) (e - 1) (Some p) None q ∙ r .1) ]
-    | inr k ↦ (p, at-it (ap (λ j. j - 1) (sym k))) ] }
+put-marks {f} {e} n p s z l h = record {
+  wide = length-set (s .placed) (n - 1) (Some p) ∙ h .wide;
+  marks = λ x. elim x [
+    | inl k ↦ elim (cases-eq (e - 1) (n - 1)) [
+      | inl q ↦ (p, at-it q)
+      | inr q ↦ let r = h .marks k in (r .0, getD-set-other (s .placed) (n - 1) (e - 1) (Some p) None q ∙ r .1)
+    ]
+    | inr k ↦ (p, at-it (ap (λ j. j - 1) (sym k)))
+  ];
+}
   where
     at-it : e - 1 ≡ n - 1 → getD (set (s .placed) (n - 1) (Some p)) (e - 1) None ≡ Some p
     at-it q = ap (λ j. getD (set (s .placed) (n - 1) (Some p)) j None) q ∙ getD-set-same (s .placed) (n - 1) (Some p) None (omega (arith, h .wide))
@@ -142,11 +145,12 @@ opened-up b e n (down c i z u) = inr (i, u)
 
 -- where n is no expression, e is below a child
 only-below : {b : Shape} {e n : ℕ} {k : NodeKind} → Known b e n k → isExpr k ≡ false → Under b e n → Some-of b e (kids b n)
-only-below {b} {e} {n} {k} g q u = elim (opened-up b e n u)
-    [ inl r ↦
+only-below {b} {e} {n} {k} g q u = elim (opened-up b e n u) [
+  | inl r ↦
       let x : true ≡ false = sym (g .expr) ∙ ap (λ j. isExpr (kindOf b j)) (sym r) ∙ ap isExpr (g .kind) ∙ q in
       let z : _≡_ {A = ℕ} 0 1 = cc in absurd (omega arith)
-    | inr r ↦ r ]
+  | inr r ↦ r
+]
 
 -- which of the first one, two or three children
 first-one : {b : Shape} {e : ℕ} (n : ℕ) → ((i : ℕ) → 1 ≤ i → kid b n i ≡ 0) → Some-of b e (kids b n) → Under b e (kid b n 0)
@@ -462,9 +466,10 @@ in-closure {b} {e} n u = go (u .0) (u .1)
     go : (i : ℕ) → Under b e (kid b n i) → (Under b e (kid b n 0) ⊎ Under b e (kid b n 1)) ⊎ (Some-of b e (others (drop 2 (kids b n))) ⊎ Some-of b e (others (drop 3 (kids b n))))
     go zero w = inl (inl w)
     go (suc zero) w = inl (inr w)
-    go (suc (suc k)) w = elim (halves k)
-      [ inl p ↦ inr (inl (p .0, subst (λ c. Under b e c) (ap (λ j. kid b n (suc (suc j))) (p .1) ∙ sym (others-at (drop 2 (kids b n)) (p .0) ∙ tail-at 1 (kids b n) (twice (p .0)) ∙ tail-at 0 (kids b n) (suc (twice (p .0))))) w))
-      | inr p ↦ inr (inr (p .0, subst (λ c. Under b e c) (ap (λ j. kid b n (suc (suc j))) (p .1) ∙ sym (others-at (drop 3 (kids b n)) (p .0) ∙ tail-at 2 (kids b n) (twice (p .0)) ∙ tail-at 1 (kids b n) (suc (twice (p .0))) ∙ tail-at 0 (kids b n) (suc (suc (twice (p .0)))))) w)) ]
+    go (suc (suc k)) w = elim (halves k) [
+      | inl p ↦ inr (inl (p .0, subst (λ c. Under b e c) (ap (λ j. kid b n (suc (suc j))) (p .1) ∙ sym (others-at (drop 2 (kids b n)) (p .0) ∙ tail-at 1 (kids b n) (twice (p .0)) ∙ tail-at 0 (kids b n) (suc (twice (p .0))))) w))
+      | inr p ↦ inr (inr (p .0, subst (λ c. Under b e c) (ap (λ j. kid b n (suc (suc j))) (p .1) ∙ sym (others-at (drop 3 (kids b n)) (p .0) ∙ tail-at 2 (kids b n) (twice (p .0)) ∙ tail-at 1 (kids b n) (suc (twice (p .0))) ∙ tail-at 0 (kids b n) (suc (suc (twice (p .0)))))) w))
+    ]
 
 closure : (b : Shape) (e n : ℕ) → Tamed b e n Closure
 unfolding step inner

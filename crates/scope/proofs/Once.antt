@@ -57,9 +57,10 @@ point : (m c : ℕ) (w : ℕ → ℕ) → 0 < c → c ≤ m → sumTo m (λ j. c
 unfolding sumTo
 point zero c w h l = absurd (omega arith)
 point (suc m) c w h l =
-    elim (cases-eq (suc m) c)
-    [ inl e ↦ omega (arith, here (suc m) c w e, point-none m c w (omega arith))
-    | inr e ↦ omega (arith, away (suc m) c w e, point m c w h (elim (cases-order (suc m) c) [ inl f ↦ absurd (e f) | inr f ↦ elim f [ inl g ↦ omega arith | inr g ↦ omega arith ] ])) ]
+    elim (cases-eq (suc m) c) [
+      | inl e ↦ omega (arith, here (suc m) c w e, point-none m c w (omega arith))
+      | inr e ↦ omega (arith, away (suc m) c w e, point m c w h (elim (cases-order (suc m) c) [ inl f ↦ absurd (e f) | inr f ↦ elim f [ inl g ↦ omega arith | inr g ↦ omega arith ] ]))
+    ]
 
 -- a sum over a list by how often each number stands there
 counted : (m : ℕ) (w : ℕ → ℕ) (cs : List ℕ) → All (λ c. (0 < c) × (c ≤ m)) cs → sumBy w cs ≡ sumTo m (λ j. times j cs * w j)

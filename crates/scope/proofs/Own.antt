@@ -97,13 +97,13 @@ module _ (t : ExprScopes) (s : ScopeId) (there : Is-scope t s) where
   from-start =
       let st = t .started (s .0 - 1) (omega (arith, there)) in
       own-from (s .0) es (dataOf t s .start) (omega (arith, entry-count, st)) (λ j l e.
-        let b : j < t .entries .len = omega (arith, st) in
-        let h = home-at j b e in
-        omega (arith, t .after j b, ap (λ d. d .start) (range-at j h)))
+      let b : j < t .entries .len = omega (arith, st) in
+      let h = home-at j b e in
+      omega (arith, t .after j b, ap (λ d. d .start) (range-at j h)))
 
   pub past-end : (k : ℕ) → dataOf t s .end ≤ k → entriesOf (s .0) (drop k es) ≡ []
   past-end k g =
       own-past (s .0) es k (λ j l m e.
-        let b : j < t .entries .len = omega (arith, entry-count) in
-        let h = home-at j b e in
-        omega (arith, t .before j b, ap (λ d. d .end) (range-at j h)))
+      let b : j < t .entries .len = omega (arith, entry-count) in
+      let h = home-at j b e in
+      omega (arith, t .before j b, ap (λ d. d .end) (range-at j h)))

@@ -58,9 +58,10 @@ module _ (rs : List ScopeData) (es : List ScopeEntry) (m n s : ℕ) (e : ScopeEn
 
   -- the scope of a number after the write: the same start, and an end no lower unless it is this one
   start-same : (j : ℕ) → getD rs2 j blankScope .start ≡ getD rs j blankScope .start
-  start-same j = elim (cases-eq j (s - 1))
-      [ inl i ↦ subst (λ y. getD rs2 y blankScope .start ≡ getD rs y blankScope .start) (sym i) (ap (λ y. y .start) (getD-set-same rs (s - 1) (ending (n + 1) (getD rs (s - 1) blankScope)) blankScope k))
-      | inr i ↦ ap (λ y. y .start) (getD-set-other rs (s - 1) j (ending (n + 1) (getD rs (s - 1) blankScope)) blankScope i) ]
+  start-same j = elim (cases-eq j (s - 1)) [
+    | inl i ↦ subst (λ y. getD rs2 y blankScope .start ≡ getD rs y blankScope .start) (sym i) (ap (λ y. y .start) (getD-set-same rs (s - 1) (ending (n + 1) (getD rs (s - 1) blankScope)) blankScope k))
+    | inr i ↦ ap (λ y. y .start) (getD-set-other rs (s - 1) j (ending (n + 1) (getD rs (s - 1) blankScope)) blankScope i)
+  ]
 
   end-here : getD rs2 (s - 1) blankScope .end ≡ n + 1
   end-here = ap (λ y. y .end) (getD-set-same rs (s - 1) (ending (n + 1) (getD rs (s - 1) blankScope)) blankScope k)
@@ -75,15 +76,17 @@ module _ (rs : List ScopeData) (es : List ScopeEntry) (m n s : ℕ) (e : ScopeEn
 
   pub added-before : Ends-after rs es n → Ends-after rs2 es2 (n + 1)
   added-before a = below-more (λ q. q < homeIn rs2 es2 q .end) n
-      (λ q i. elim (cases-eq (homeOf es2 q - 1) (s - 1))
-        [ inl j ↦ omega (arith, ap (λ y. getD rs2 y blankScope .end) j, end-here)
-        | inr j ↦ omega (arith, end-other (homeOf es2 q - 1) j, ap (λ y. getD rs (y - 1) blankScope .end) (old q i), a q i) ])
+      (λ q i. elim (cases-eq (homeOf es2 q - 1) (s - 1)) [
+        | inl j ↦ omega (arith, ap (λ y. getD rs2 y blankScope .end) j, end-here)
+        | inr j ↦ omega (arith, end-other (homeOf es2 q - 1) j, ap (λ y. getD rs (y - 1) blankScope .end) (old q i), a q i)
+      ])
       (omega (arith, ap (λ y. getD rs2 (y - 1) blankScope .end) new, end-here))
 
   pub added-started : Started rs m n → Started rs2 m (n + 1)
   added-started a j i = omega (arith, a j i, start-same j)
 
   pub added-ended : Ended rs m n → Ended rs2 m (n + 1)
-  added-ended a j i = elim (cases-eq j (s - 1))
-      [ inl o ↦ omega (arith, ap (λ y. getD rs2 y blankScope .end) o, end-here)
-      | inr o ↦ omega (arith, end-other j o, a j i) ]
+  added-ended a j i = elim (cases-eq j (s - 1)) [
+    | inl o ↦ omega (arith, ap (λ y. getD rs2 y blankScope .end) o, end-here)
+    | inr o ↦ omega (arith, end-other j o, a j i)
+  ]

@@ -76,29 +76,33 @@ times-to b c z (suc m) = times-append c (childrenTo b m) (numbers (childrenOf b 
 times-one : (b : Shape) (c m p : ℕ) → 0 < p → p ≤ m → times c (kids b p) ≤ times c (kidsTo b m)
 unfolding kidsTo
 times-one b c zero p z l = absurd (omega arith)
-times-one b c (suc m) p z l = elim (cases-eq p (suc m))
-    [ inl e ↦ omega (arith, times-append c (kidsTo b m) (kids b (suc m)), ap (λ k. times c (kids b k)) e)
-    | inr e ↦ omega (arith, times-append c (kidsTo b m) (kids b (suc m)), times-one b c m p z (omega (arith, e))) ]
+times-one b c (suc m) p z l = elim (cases-eq p (suc m)) [
+  | inl e ↦ omega (arith, times-append c (kidsTo b m) (kids b (suc m)), ap (λ k. times c (kids b k)) e)
+  | inr e ↦ omega (arith, times-append c (kidsTo b m) (kids b (suc m)), times-one b c m p z (omega (arith, e)))
+]
 
 times-two : (b : Shape) (c m p q : ℕ) → 0 < p → p < q → q ≤ m → times c (kids b p) + times c (kids b q) ≤ times c (kidsTo b m)
 unfolding kidsTo
 times-two b c zero p q z l k = absurd (omega arith)
-times-two b c (suc m) p q z l k = elim (cases-eq q (suc m))
-    [ inl e ↦ omega (arith, times-append c (kidsTo b m) (kids b (suc m)), ap (λ k. times c (kids b k)) e, times-one b c m p z (omega arith))
-    | inr e ↦ omega (arith, times-append c (kidsTo b m) (kids b (suc m)), times-two b c m p q z l (omega (arith, e))) ]
+times-two b c (suc m) p q z l k = elim (cases-eq q (suc m)) [
+  | inl e ↦ omega (arith, times-append c (kidsTo b m) (kids b (suc m)), ap (λ k. times c (kids b k)) e, times-one b c m p z (omega arith))
+  | inr e ↦ omega (arith, times-append c (kidsTo b m) (kids b (suc m)), times-two b c m p q z l (omega (arith, e)))
+]
 
 found-at : (c : ℕ) (xs : List ℕ) → 1 ≤ times c xs → (i : ℕ) × (getD xs i 0 ≡ c)
 found-at c [] l = absurd (omega arith)
-found-at c (x ∷ xs) l = elim (cases-eq c x)
-    [ inl e ↦ (0, sym e)
-    | inr e ↦ let r = found-at c xs (omega (arith, ap (λ k. k + times c xs) (cond-false (eqb c x) 1 0 (ne-eqb c x e)))) in (suc (r .0), r .1) ]
+found-at c (x ∷ xs) l = elim (cases-eq c x) [
+  | inl e ↦ (0, sym e)
+  | inr e ↦ let r = found-at c xs (omega (arith, ap (λ k. k + times c xs) (cond-false (eqb c x) 1 0 (ne-eqb c x e)))) in (suc (r .0), r .1)
+]
 
 found-to : (b : Shape) (c m : ℕ) → 1 ≤ times c (kidsTo b m) → (p : ℕ) × ((0 < p) × (p ≤ m)) × ((i : ℕ) × (kid b p i ≡ c))
 unfolding kidsTo
 found-to b c zero l = absurd (omega arith)
-found-to b c (suc m) l = elim (cases-lt 0 (times c (kids b (suc m))))
-    [ inl k ↦ (suc m, (omega arith, omega arith), found-at c (kids b (suc m)) k)
-    | inr k ↦ let r = found-to b c m (omega (arith, times-append c (kidsTo b m) (kids b (suc m)))) in (r .0, (r .1 .0, omega (arith, r .1)), r .2) ]
+found-to b c (suc m) l = elim (cases-lt 0 (times c (kids b (suc m)))) [
+  | inl k ↦ (suc m, (omega arith, omega arith), found-at c (kids b (suc m)) k)
+  | inr k ↦ let r = found-to b c m (omega (arith, times-append c (kidsTo b m) (kids b (suc m)))) in (r .0, (r .1 .0, omega (arith, r .1)), r .2)
+]
 
 -- every node but the last has a parent
 pub parent-of : (b : Shape) (m : ℕ) → Once b m → (c : ℕ) → 0 < c → c < m → (p : ℕ) × ((0 < p) × (p ≤ m)) × ((i : ℕ) × (kid b p i ≡ c))
@@ -112,18 +116,25 @@ lone b m fall once w p q i j zp lp zq lq z e =
     let o : times c (kidsTo b m) ≡ 1 = sym (times-to b c z m) ∙ once c z lc in
     let tp : 1 ≤ times c (kids b p) = times-at c (kids b p) i z refl in
     let tq : 1 ≤ times c (kids b q) = times-at c (kids b q) j z (sym e) in
-    elim (cases-order p q)
-    [ inl same ↦ (same, elim (cases-order i j)
-        [ inl k ↦ k
-        | inr k ↦
-          let f : getD (kids b p) j 0 ≡ c = ap (λ n. kid b n j) same ∙ sym e in
-          let u = times-one b c m p zp lp in
-          elim k
-          [ inl l ↦ absurd (omega (arith, times-twice c (kids b p) i j z refl f l))
-          | inr l ↦ absurd (omega (arith, times-twice c (kids b p) j i z f refl l)) ] ])
-    | inr k ↦ elim k
-        [ inl l ↦ absurd (omega (arith, times-two b c m p q zp l lq))
-        | inr l ↦ absurd (omega (arith, times-two b c m q p zq l lp)) ] ]
+    elim (cases-order p q) [
+      | inl same ↦ (
+        same,
+        elim (cases-order i j) [
+          | inl k ↦ k
+          | inr k ↦
+              let f : getD (kids b p) j 0 ≡ c = ap (λ n. kid b n j) same ∙ sym e in
+              let u = times-one b c m p zp lp in
+              elim k [
+                | inl l ↦ absurd (omega (arith, times-twice c (kids b p) i j z refl f l))
+                | inr l ↦ absurd (omega (arith, times-twice c (kids b p) j i z f refl l))
+              ]
+        ],
+      )
+      | inr k ↦ elim k [
+        | inl l ↦ absurd (omega (arith, times-two b c m p q zp l lq))
+        | inr l ↦ absurd (omega (arith, times-two b c m q p zq l lp))
+      ]
+    ]
 
 sight-low : (b : Shape) (m : ℕ) → Tree-law b m → (e : ℕ) (xs : List ℕ) → Sight b m e xs → e ≤ m
 sight-low b m t e xs root = omega arith
@@ -141,9 +152,10 @@ everywhere b m x e xs (below {p = p} {xs = ys} i h g) a = among-right x (brings 
 forth : (b : Shape) (m : ℕ) → Tree-law b m → (x e : ℕ) (xs : List ℕ) → Sight b m e xs → Among x xs → Listed-for b m x e
 forth b m t x e xs root a = parameter m a
 forth b m t x e xs (below {p = p} {xs = ys} i h g) a =
-    elim (among-split x (brings b (kindOf b p) (kids b p) i) (cond (shuts (kindOf b p) i) (parameters b m) ys) a)
-    [ inl k ↦ brought p i (h, sight-low b m t p ys g) k
-    | inr k ↦ pick (shuts (kindOf b p) i) refl k (forth b m t x p ys g) ]
+    elim (among-split x (brings b (kindOf b p) (kids b p) i) (cond (shuts (kindOf b p) i) (parameters b m) ys) a) [
+      | inl k ↦ brought p i (h, sight-low b m t p ys g) k
+      | inr k ↦ pick (shuts (kindOf b p) i) refl k (forth b m t x p ys g)
+    ]
   where
     pick : (z : Bool) → shuts (kindOf b p) i ≡ z → Among x (cond z (parameters b m) ys) → (Among x ys → Listed-for b m x p) → Listed-for b m x (kid b p i)
     pick true q k f = parameter (kid b p i) k
@@ -210,9 +222,10 @@ right-of v (z ∷ xs) ys a = inr (right-of v xs ys a)
 
 met-holds : (s : State) (v : BindingId) (c : ℕ) (vs : List BindingId) → Met s c vs → Among v vs → Holds s v c
 met-holds s v c vs (Met.top x h l e) a = record { scope = x; chain = itself; entry = a }
-met-holds s v c vs (Met.up x p ws h l e g) a = elim (split-of v (held x (s .entries)) ws a)
-    [ inl k ↦ record { scope = x; chain = itself; entry = k }
-    | inr k ↦ let r = met-holds s v (p .0) ws g k in record { scope = r .scope; chain = outward x p e (r .chain); entry = r .entry } ]
+met-holds s v c vs (Met.up x p ws h l e g) a = elim (split-of v (held x (s .entries)) ws a) [
+  | inl k ↦ record { scope = x; chain = itself; entry = k }
+  | inr k ↦ let r = met-holds s v (p .0) ws g k in record { scope = r .scope; chain = outward x p e (r .chain); entry = r .entry }
+]
 
 here-met : (s : State) (v : BindingId) (d : ℕ) (vs : List BindingId) → Met s d vs → Among v (held d (s .entries)) → Among v vs
 here-met s v d vs (Met.top x h l e) a = a
@@ -229,7 +242,8 @@ holds-met s v h c (outward y p e w) a d vs (Met.up x p2 ws z l f g) q =
 -- the law of reach by bindings, from the law by lists
 pub by-bindings : (b : Shape) (m : ℕ) (s : State) → Reach-in b m s → Entries-in b m s
 by-bindings b m s law e r k v =
-    let g = law e r k in
-    ( (λ h. let a = unmapped b v (g .binds) (holds-met s v (h .scope) (r .0) (h .chain) (h .entry) (r .0) (map (bound b) (g .binds)) (g .met) refl) in
-            record { at = a .0; binds = a .1; reach = g .reach (a .0) .0 (a .2) })
-    , (λ h. met-holds s v (r .0) (map (bound b) (g .binds)) (g .met) (subst (λ k. Among k (map (bound b) (g .binds))) (sym (h .binds)) (among-map b (h .at) (g .binds) (g .reach (h .at) .1 (h .reach))))) )
+    let g = law e r k in (
+      (λ h. let a = unmapped b v (g .binds) (holds-met s v (h .scope) (r .0) (h .chain) (h .entry) (r .0) (map (bound b) (g .binds)) (g .met) refl) in
+          record { at = a .0; binds = a .1; reach = g .reach (a .0) .0 (a .2) }),
+      (λ h. met-holds s v (r .0) (map (bound b) (g .binds)) (g .met) (subst (λ k. Among k (map (bound b) (g .binds))) (sym (h .binds)) (among-map b (h .at) (g .binds) (g .reach (h .at) .1 (h .reach))))),
+    )

@@ -52,12 +52,13 @@ self-marks (Some v) at s h = added-marks v (at .current) s h
 -- every node is below the last
 climb : (b : Shape) (m e : ℕ) → Tree-law b m → (k c : ℕ) → m ≤ c + k → 0 < c → c ≤ m → Under b e c → Under b e m
 climb b m e t zero c l z q u = let s : c ≡ m = omega arith in subst (λ n. Under b e n) s u
-climb b m e t (suc k) c l z q u = elim (cases-eq c m)
-    [ inl s ↦ subst (λ n. Under b e n) s u
-    | inr s ↦
+climb b m e t (suc k) c l z q u = elim (cases-eq c m) [
+  | inl s ↦ subst (λ n. Under b e n) s u
+  | inr s ↦
       let r = parent-of b m (t .once) c z (omega (arith, s)) in
       let up = low b (t .below) (r .0) (r .1 .0) (omega (arith, r .1, t .size)) (r .2 .0) in
-      climb b m e t k (r .0) (omega (arith, up, r .2 .1)) (r .1 .0) (r .1 .1) (Under.down (r .0) (r .2 .0) (r .1 .0) (subst (λ n. Under b e n) (sym (r .2 .1)) u)) ]
+      climb b m e t k (r .0) (omega (arith, up, r .2 .1)) (r .1 .0) (r .1 .1) (Under.down (r .0) (r .2 .0) (r .1 .0) (subst (λ n. Under b e n) (sym (r .2 .1)) u))
+]
 
 pub recorded : (b : Shape) (m : ℕ) → Tree-law b m → All-recorded b m (built b m)
 unfolding built
@@ -70,8 +71,9 @@ recorded b m t e l x =
     let s1 = each (drop 1 (visits b m)) first s0 in
     let h2 = tame-at ts 0 (⊥ ⊎ Some-of b n (drop 1 (kids b m))) first s1 h1 in
     let u = climb b m n t m n (omega arith) (omega arith) (omega arith) (Under.self n (omega arith) refl) in
-    let o : Recorded n (built b m) = elim (opened-up b n m u)
-          [ inl q ↦ absurd (omega arith)
-          | inr w ↦ elim (first-rest m w) [ inl y ↦ h2 .marks (inr y) | inr y ↦ h2 .marks (inl (inr y)) ] ] in
+    let o : Recorded n (built b m) = elim (opened-up b n m u) [
+      | inl q ↦ absurd (omega arith)
+      | inr w ↦ elim (first-rest m w) [ inl y ↦ h2 .marks (inr y) | inr y ↦ h2 .marks (inl (inr y)) ]
+    ] in
     let i : e ≡ n - 1 = omega arith in
     (o .0, ap (λ j. getD (built b m .placed) j None) i ∙ o .1)

@@ -25,15 +25,17 @@ rooted-more rs m s l h p k z q =
 -- another end of a scope's range leaves the tree as it is
 pub widened : (rs : List ScopeData) (m k : ℕ) (s : ScopeData) → k < length rs → s .parent ≡ getD rs k blankScope .parent → Sloping rs m → Sloping (set rs k s) m
 widened rs m k s l e h j q =
-    elim (cases-eq j k)
-    [ inl i ↦ subst (λ x. parentOf (getD (set rs k s) x blankScope .parent) ≤ x) (sym i) (rw getD-set-same (subst (λ y. parentOf y ≤ k) (sym e) (h k (omega arith))))
-    | inr n ↦ let ne : j ≢ k = n in rw getD-set-other (h j q) ]
+    elim (cases-eq j k) [
+      | inl i ↦ subst (λ x. parentOf (getD (set rs k s) x blankScope .parent) ≤ x) (sym i) (rw getD-set-same (subst (λ y. parentOf y ≤ k) (sym e) (h k (omega arith))))
+      | inr n ↦ let ne : j ≢ k = n in rw getD-set-other (h j q)
+    ]
 
 pub widened-root : (rs : List ScopeData) (m k : ℕ) (s : ScopeData) → k < length rs → s .parent ≡ getD rs k blankScope .parent → Rooted rs m → Rooted (set rs k s) m
 widened-root rs m k s l e h j z q =
-    elim (cases-eq j k)
-    [ inl i ↦ subst (λ x. 0 < parentOf (getD (set rs k s) x blankScope .parent)) (sym i) (rw getD-set-same (subst (λ y. 0 < parentOf y) (sym e) (h k (omega arith) (omega arith))))
-    | inr n ↦ let ne : j ≢ k = n in rw getD-set-other (h j z q) ]
+    elim (cases-eq j k) [
+      | inl i ↦ subst (λ x. 0 < parentOf (getD (set rs k s) x blankScope .parent)) (sym i) (rw getD-set-same (subst (λ y. 0 < parentOf y) (sym e) (h k (omega arith) (omega arith))))
+      | inr n ↦ let ne : j ≢ k = n in rw getD-set-other (h j z q)
+    ]
 
 -- a list after a write that a function does not see
 pub unseen : {X Y : Type 0} (f : X → Y) (xs : List X) (k : ℕ) (x d : X) → f x ≡ f (getD xs k d) → map f (set xs k x) ≡ map f xs

@@ -19,4 +19,3 @@ use Rattle.scope.proofs.Fold.{visit-is}
 -- the visit of a node of kind k
 pub by-kind : (b : Shape) (fall : Below (b .nodes) (b .children)) (n : NodeId) {r : Node} {k : NodeKind} → r ≡ nodeAt (b .nodes) (n .raw) → r .kind ≡ k → visitOf b (n .raw) ≡ step (n .raw) k (visits b (n .raw))
 by-kind b fall n e f = visit-is b fall n ∙ ap (λ k. step (n .raw) k (visits b (n .raw))) (sym (ap (λ x. x .kind) e) ∙ f)
-

@@ -78,9 +78,10 @@ getD-map-any f (x ∷ xs) (suc i) d = getD-map-any f xs i d
 -- a child is numbered below its parent
 pub low : (b : Shape) (fall : Below (b .nodes) (b .children)) (n : ℕ) → 0 < n → n ≤ 512 → (i : ℕ) → kid b n i < n
 unfolding kids
-low b fall n p q i = elim (cases-lt i (length (childrenOf b n)))
-    [ inl l ↦ omega (arith, getD-map-any numberOf (childrenOf b n) i None, falls b fall n p q i l)
-    | inr l ↦ omega (arith, getD-past (map numberOf (childrenOf b n)) i 0 (rw length-map l)) ]
+low b fall n p q i = elim (cases-lt i (length (childrenOf b n))) [
+  | inl l ↦ omega (arith, getD-map-any numberOf (childrenOf b n) i None, falls b fall n p q i l)
+  | inr l ↦ omega (arith, getD-past (map numberOf (childrenOf b n)) i 0 (rw length-map l))
+]
 
 yes-no : true ≡ false → ⊥
 yes-no q = let z : _≡_ {A = ℕ} 0 1 = cc in absurd (omega arith)
@@ -129,11 +130,12 @@ suits-at b m f (suc n) i p = f n i (omega (arith, p))
 -- nothing is bound where no pattern stands
 tidy : (b : Shape) (m : ℕ) → Tree-law b m → (n i : ℕ) → Node-of m n → patternAt (kindOf b n) i ≡ false → binds b (kid b n i) ≡ []
 unfolding binds
-tidy b m t n i p q = elim (cases-lt 0 (kid b n i))
-    [ inl z ↦
+tidy b m t n i p q = elim (cases-lt 0 (kid b n i)) [
+  | inl z ↦
       let l : kid b n i ≤ 512 = omega (arith, low b (t .below) n (p .0) (omega (arith, p, t .size)) i, p, t .size) in
       binds-are b (t .below) (kid b n i) z l ∙ unbound (kid b n i) (kindOf b (kid b n i)) (map (binds b) (kids b (kid b n i))) (suited b (kindOf b n) i (kid b n i) z (suits-at b m (t .fits) n i p) q)
-    | inr z ↦ let e : kid b n i ≡ 0 = omega arith in ap (binds b) e ]
+  | inr z ↦ let e : kid b n i ≡ 0 = omega arith in ap (binds b) e
+]
 
 good-node : (b : Shape) (m : ℕ) → Tree-law b m → (n : ℕ) → Node-of m n → ((c : ℕ) → c < n → Good b m c (go b c)) → Good b m n (go b n)
 unfolding go
@@ -225,21 +227,23 @@ whole-run b m law =
     let plain : binds b (kid b m 0) ≡ [] = tidy b m law m 0 (law .size .0, omega arith) (ap (λ k. patternAt k 0) (is-body (kindOf b m) (law .body))) in
     let z = run-then (within h) r0 (run-then (within h0) (a .run) (quiet 1 plain (c .run))) in
     let all-of : map (bound b) (selfOf m self) ++ (map (bound b) (allBinds b (drop 1 ks)) ++ []) ≡ map (bound b) ps = ap (λ k. map (bound b) (selfOf m self) ++ k) (append-nil (map (bound b) (allBinds b (drop 1 ks)))) ∙ sym (map-append (bound b) (selfOf m self) (allBinds b (drop 1 ks))) in
-    let held-is : (h : ℕ) → 0 < h → h ≤ length (built b m .scopes) → held h (built b m .entries) ≡ map (bound b) (getD (c .names) (h - 1) []) = λ h p l. elim (cases-lt 1 h)
-          [ inl g ↦ z .new h g l
-          | inr g ↦
-            let one : h ≡ 1 = omega arith in
-            let at-one : held 1 (built b m .entries) ≡ map (bound b) (getD (c .names) 0 []) = z .old 1 (omega arith) ∙ all-of ∙ ap (λ k. map (bound b) (getD k 0 [])) (sym (z .names-are)) in
-            subst (λ h. held h (built b m .entries) ≡ map (bound b) (getD (c .names) (h - 1) [])) (sym one) at-one ] in
+    let held-is : (h : ℕ) → 0 < h → h ≤ length (built b m .scopes) → held h (built b m .entries) ≡ map (bound b) (getD (c .names) (h - 1) []) = λ h p l. elim (cases-lt 1 h) [
+      | inl g ↦ z .new h g l
+      | inr g ↦
+          let one : h ≡ 1 = omega arith in
+          let at-one : held 1 (built b m .entries) ≡ map (bound b) (getD (c .names) 0 []) = z .old 1 (omega arith) ∙ all-of ∙ ap (λ k. map (bound b) (getD k 0 [])) (sym (z .names-are)) in
+          subst (λ h. held h (built b m .entries) ≡ map (bound b) (getD (c .names) (h - 1) [])) (sym one) at-one
+    ] in
     record { names = c .names; own = map (bound b) (selfOf m self) ++ (map (bound b) (allBinds b (drop 1 ks)) ++ []); run = z; holds = held-is }
 
 -- every node with a recorded scope meets, from there outward, the bindings of the binds in its sight
 pub seen : (b : Shape) (m : ℕ) → Tree-law b m → (e : ℕ) (r : ScopeId) → getD (built b m .placed) e None ≡ Some r → Seen b m (built b m) (suc e) r
 seen b m law e r k =
     let w = whole-run b m law in
-    elim (w .run .placed e r k)
-    [ inl g ↦ absurd (none-placed 512 e r g)
-    | inr g ↦ record { expr = g .expr; binds = g .names; sight = g .sight; met = met-of b (built b m) (w .names) (w .holds) (r .0) (g .names) (g .view) } ]
+    elim (w .run .placed e r k) [
+      | inl g ↦ absurd (none-placed 512 e r g)
+      | inr g ↦ record { expr = g .expr; binds = g .names; sight = g .sight; met = met-of b (built b m) (w .names) (w .holds) (r .0) (g .names) (g .view) }
+    ]
 
 -- only expressions have a recorded scope
 pub only-expressions : (b : Shape) (m : ℕ) → Tree-law b m → Only-expressions b (built b m)
@@ -252,9 +256,10 @@ root-first b m law = ap (λ rs. getD rs 0 noScope) (whole-run b m law .run .scop
 pub blocks-hold-none : (b : Shape) (m : ℕ) → Tree-law b m → Blocks-hold-none (built b m)
 blocks-hold-none b m law c h x =
     let w = whole-run b m law in
-    elim (cases-lt 1 c)
-    [ inl g ↦ w .holds c (h .0) (h .1) ∙ ap (map (bound b)) (w .run .empty c g (h .1) x)
-    | inr g ↦
-      let one : c ≡ 1 = omega (arith, h) in
-      let i : c - 1 ≡ 0 = omega arith in
-      absurd (yes-no (sym (sym (ap (λ j. holdsNone (getD (built b m .scopes) j noScope .kind)) i ∙ ap (λ z. holdsNone (z .kind)) (root-first b m law)) ∙ x))) ]
+    elim (cases-lt 1 c) [
+      | inl g ↦ w .holds c (h .0) (h .1) ∙ ap (map (bound b)) (w .run .empty c g (h .1) x)
+      | inr g ↦
+          let one : c ≡ 1 = omega (arith, h) in
+          let i : c - 1 ≡ 0 = omega arith in
+          absurd (yes-no (sym (sym (ap (λ j. holdsNone (getD (built b m .scopes) j noScope .kind)) i ∙ ap (λ z. holdsNone (z .kind)) (root-first b m law)) ∙ x)))
+    ]

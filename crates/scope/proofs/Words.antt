@@ -81,9 +81,10 @@ lasts-kind : (b : Shape) (fall : Below (b .nodes) (b .children)) (x n : ℕ) (k 
 lasts-kind b fall x n Leaf z w q ih a = absurd a
 lasts-kind b fall x n (Use y h) z w q ih a = absurd a
 lasts-kind b fall x n Sequence z w q ih a = absurd a
-lasts-kind b fall x n And z w q ih a = elim (among-split x (getD (map (leaves b) (kids b n)) 1 []) (getD (map (leaves b) (kids b n)) 0 []) a)
-    [ inl c ↦ Lasts.right n z q (ih 1 (subst (λ ys. Among x ys) (leaves-at b (kids b n) 1) c))
-    | inr c ↦ Lasts.left n z q (ih 0 (subst (λ ys. Among x ys) (leaves-at b (kids b n) 0) c)) ]
+lasts-kind b fall x n And z w q ih a = elim (among-split x (getD (map (leaves b) (kids b n)) 1 []) (getD (map (leaves b) (kids b n)) 0 []) a) [
+  | inl c ↦ Lasts.right n z q (ih 1 (subst (λ ys. Among x ys) (leaves-at b (kids b n) 1) c))
+  | inr c ↦ Lasts.left n z q (ih 0 (subst (λ ys. Among x ys) (leaves-at b (kids b n) 0) c))
+]
 lasts-kind b fall x n If z w q ih a = absurd a
 lasts-kind b fall x n Let z w q ih a = Lasts.condition n z q (bound-to b fall x (suc (kid b n 0)) (kid b n 0) (omega arith) (omega (arith, low b fall n z w 0)) a)
 lasts-kind b fall x n (Block c l) z w q ih a = absurd a
@@ -165,9 +166,10 @@ brings-kind b fall x p (Block c l) z w q (suc i) a = let r = taken-at b x (drop 
 brings-kind b fall x p (Loop l) z w q i a = absurd a
 brings-kind b fall x p Closure z w q zero a = let r = joined-at b x (others (drop 2 (kids b p))) a in let u = subst (λ c. Among x (binds b c)) (patterns-at b p (r .0)) (r .1) in Brings.closure (r .0) q (bound-to b fall x (suc (kid b p (suc (suc (twice (r .0)))))) (kid b p (suc (suc (twice (r .0))))) (omega arith) (omega (arith, low b fall p z w (suc (suc (twice (r .0)))))) u)
 brings-kind b fall x p Closure z w q (suc zero) a = absurd a
-brings-kind b fall x p Closure z w q (suc (suc i)) a = elim (halves i)
-    [ inl h ↦ let a2 = subst (λ ys. Among x ys) (ap (λ j. turn j (allBinds b (others (drop 2 (kids b p)))) []) (h .1) ∙ turn-twice (h .0) (allBinds b (others (drop 2 (kids b p)))) []) a in let r = joined-at b x (others (drop 2 (kids b p))) a2 in let u = subst (λ c. Among x (binds b c)) (patterns-at b p (r .0)) (r .1) in subst (λ j. Brings b x p (suc (suc j))) (sym (h .1)) (Brings.own-closure (h .0) (r .0) q (bound-to b fall x (suc (kid b p (suc (suc (twice (r .0)))))) (kid b p (suc (suc (twice (r .0))))) (omega arith) (omega (arith, low b fall p z w (suc (suc (twice (r .0)))))) u))
-    | inr h ↦ absurd (subst (λ ys. Among x ys) (ap (λ j. turn j (allBinds b (others (drop 2 (kids b p)))) []) (h .1) ∙ turn-twice (h .0) [] (allBinds b (others (drop 2 (kids b p))))) a) ]
+brings-kind b fall x p Closure z w q (suc (suc i)) a = elim (halves i) [
+  | inl h ↦ let a2 = subst (λ ys. Among x ys) (ap (λ j. turn j (allBinds b (others (drop 2 (kids b p)))) []) (h .1) ∙ turn-twice (h .0) (allBinds b (others (drop 2 (kids b p)))) []) a in let r = joined-at b x (others (drop 2 (kids b p))) a2 in let u = subst (λ c. Among x (binds b c)) (patterns-at b p (r .0)) (r .1) in subst (λ j. Brings b x p (suc (suc j))) (sym (h .1)) (Brings.own-closure (h .0) (r .0) q (bound-to b fall x (suc (kid b p (suc (suc (twice (r .0)))))) (kid b p (suc (suc (twice (r .0))))) (omega arith) (omega (arith, low b fall p z w (suc (suc (twice (r .0)))))) u))
+  | inr h ↦ absurd (subst (λ ys. Among x ys) (ap (λ j. turn j (allBinds b (others (drop 2 (kids b p)))) []) (h .1) ∙ turn-twice (h .0) [] (allBinds b (others (drop 2 (kids b p))))) a)
+]
 brings-kind b fall x p Match z w q i a = absurd a
 brings-kind b fall x p Const z w q i a = absurd a
 brings-kind b fall x p Repeat z w q i a = absurd a
@@ -238,12 +240,13 @@ self-at b m x (Body (Some v)) q e (inr s) = absurd s
 
 pub words-to : (b : Shape) (m : ℕ) → Tree-law b m → (x e : ℕ) → Listed-for b m x e → Reaches b m x e
 unfolding parameters
-words-to b m t x e (Listed-for.parameter c a) = elim (among-split x (selfOf m (selfIn (kindOf b m))) (allBinds b (drop 1 (kids b m))) a)
-    [ inl k ↦ self-at b m x (kindOf b m) refl c k
-    | inr k ↦
+words-to b m t x e (Listed-for.parameter c a) = elim (among-split x (selfOf m (selfIn (kindOf b m))) (allBinds b (drop 1 (kids b m))) a) [
+  | inl k ↦ self-at b m x (kindOf b m) refl c k
+  | inr k ↦
       let r = joined-at b x (drop 1 (kids b m)) k in
       let u = subst (λ d. Among x (binds b d)) (tail-at 0 (kids b m) (r .0)) (r .1) in
-      Reaches.parameter (r .0) c (bound-to b (t .below) x (suc (kid b m (suc (r .0)))) (kid b m (suc (r .0))) (omega arith) (omega (arith, low b (t .below) m (t .size .0) (t .size .1) (suc (r .0)), t .size)) u) ]
+      Reaches.parameter (r .0) c (bound-to b (t .below) x (suc (kid b m (suc (r .0)))) (kid b m (suc (r .0))) (omega arith) (omega (arith, low b (t .below) m (t .size .0) (t .size .1) (suc (r .0)), t .size)) u)
+]
 words-to b m t x e (Listed-for.brought p i h a) = Reaches.brought p i h (brings-kind b (t .below) x p (kindOf b p) (h .0) (omega (arith, h, t .size)) refl i a)
 words-to b m t x e (Listed-for.kept p i h f a) = Reaches.kept p i h f (words-to b m t x p a)
 

@@ -42,18 +42,18 @@ n6 = Some (record { raw = 6; real = (lit< tt, lit≤ tt) })
 -- fn f(x) { let y = x; y }: 1 the bind of x, 2 the use of x, 3 the bind of y, 4 the let statement, 5 the use of y, 6 the block, 7 the body
 abbrev pub example : Shape
 example = record {
-    nodes = node (Bind (record { 0 = 1 })) 0 0 ∷ (node (Use (record { 0 = 3 }) (record { 0 = 0 })) 0 0 ∷ (node (Bind (record { 0 = 2 })) 0 0 ∷ (node LetStatement 0 4
+  nodes = node (Bind (record { 0 = 1 })) 0 0 ∷ (node (Use (record { 0 = 3 }) (record { 0 = 0 })) 0 0 ∷ (node (Bind (record { 0 = 2 })) 0 0 ∷ (node LetStatement 0 4
       ∷ (node (Use (record { 0 = 4 }) (record { 0 = 0 })) 4 0 ∷ (node (Block None None) 4 2 ∷ (node (Body None) 6 2 ∷ []))))));
-    children = n3 ∷ (None ∷ (n2 ∷ (None ∷ (n5 ∷ (n4 ∷ (n6 ∷ (n1 ∷ [])))))))
-  }
+  children = n3 ∷ (None ∷ (n2 ∷ (None ∷ (n5 ∷ (n4 ∷ (n6 ∷ (n1 ∷ [])))))));
+}
 
 -- fn f({ let x; }, y) { x }, with a block in a pattern: 1 the use of x, 2 the bind of x, 3 the let statement, 4 the block, 5 the pattern of it, 6 the bind of y, 7 the body
 abbrev pub in-pattern : Shape
 in-pattern = record {
-    nodes = node (Use (record { 0 = 3 }) (record { 0 = 0 })) 0 0 ∷ (node (Bind (record { 0 = 1 })) 0 0 ∷ (node LetStatement 0 4 ∷ (node (Block None None) 4 2
+  nodes = node (Use (record { 0 = 3 }) (record { 0 = 0 })) 0 0 ∷ (node (Bind (record { 0 = 1 })) 0 0 ∷ (node LetStatement 0 4 ∷ (node (Block None None) 4 2
       ∷ (node ValuePattern 6 1 ∷ (node (Bind (record { 0 = 2 })) 7 0 ∷ (node (Body None) 7 3 ∷ []))))));
-    children = n2 ∷ (None ∷ (None ∷ (None ∷ (None ∷ (n3 ∷ (n4 ∷ (n1 ∷ (n5 ∷ (n6 ∷ [])))))))))
-  }
+  children = n2 ∷ (None ∷ (None ∷ (None ∷ (None ∷ (n3 ∷ (n4 ∷ (n1 ∷ (n5 ∷ (n6 ∷ [])))))))));
+}
 
 abbrev scopeAt : Option ScopeId → Scope
 scopeAt p = record { parent = p; kind = scope.Plain }

@@ -194,7 +194,6 @@ step n Arm vs at s =
     let g = nth vs 1 (o .1) (p .0) in
     let e = nth vs 2 (g .1) (g .0) in
     (e .0, at)
-
 step n (Body x) vs at s = (s, at)
 
 abbrev pub ofChild : {X : Type 0} → X → (ℕ → X) → Option NodeId → X

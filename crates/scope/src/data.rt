@@ -45,5 +45,16 @@ pub struct Place {
     pub constant: ScopeId,
 }
 
-pub(crate) const BLANK_SCOPE: ScopeData = ScopeData { parent: None, kind: ScopeKind::Plain, start: 0, end: 0 };
-pub(crate) const BLANK_ENTRY: ScopeEntry = ScopeEntry { name: Name(0), hygiene: HygieneId(0), binding: BindingId(0), scope: ScopeId(0) };
+pub(crate) const BLANK_SCOPE: ScopeData = ScopeData {
+    parent: None,
+    kind: ScopeKind::Plain,
+    start: 0,
+    end: 0,
+};
+
+pub(crate) const BLANK_ENTRY: ScopeEntry = ScopeEntry {
+    name: Name(0),
+    hygiene: HygieneId(0),
+    binding: BindingId(0),
+    scope: ScopeId(0),
+};

@@ -48,8 +48,7 @@ pub struct ExprScopes {
     ghost ended: { Ended (scopes .records) (scopes .len) (entries .len) },
 }
 
-pub mod rows;
-pub mod visit;
 pub mod build;
 pub mod queries;
-
+pub mod rows;
+pub mod visit;

@@ -43,7 +43,10 @@ fn binding_of(body: &Body, b: BindingId) -> Binding
 {
     match body.binding(b) {
         Some(binding) => binding,
-        None => Binding { name: Name(0), hygiene: HygieneId(0) },
+        None => Binding {
+            name: Name(0),
+            hygiene: HygieneId(0),
+        },
     }
 }
 
@@ -56,7 +59,12 @@ impl Entries {
         ensures that_one { λ _. ⌜ now (self .exit) .records ≡ set (now (self .entry) .records) i (renamed by (getD (now (self .entry) .records) i noEntry)) ⌝ }
     {
         let entry = self.records[i];
-        self.records[i] = ScopeEntry { name: by.name, hygiene: by.hygiene, binding: entry.binding, scope: entry.scope };
+        self.records[i] = ScopeEntry {
+            name: by.name,
+            hygiene: by.hygiene,
+            binding: entry.binding,
+            scope: entry.scope,
+        };
     }
 
     fn binding_at(&self, i: usize) -> BindingId
@@ -107,8 +115,15 @@ impl ExprScopes {
         ensures names_each_entry { λ r. ⌜ Named (bindingsOf (now (body .entry))) (take (r .entries .len) (r .entries .records)) ⌝ }
         ensures is_defined_as_worked_out { λ _. ⌜ Examples-hold ⌝ }
     {
-        let mut tree = ExprScopes { scopes: Scopes::root(), entries: Entries::new(), recorded: Recorded::new() };
-        let at = Place { current: ScopeId(1), constant: ScopeId(1) };
+        let mut tree = ExprScopes {
+            scopes: Scopes::root(),
+            entries: Entries::new(),
+            recorded: Recorded::new(),
+        };
+        let at = Place {
+            current: ScopeId(1),
+            constant: ScopeId(1),
+        };
         let root = body.root();
         let node = look(body, root);
         tree.enter_self(self_binding(node.kind), at);

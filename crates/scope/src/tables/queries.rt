@@ -101,7 +101,11 @@ impl ExprScopes {
         ensures one_step_outward { λ r. ⌜ r ≡ parentFrom (now (self .entry)) at ⌝ }
     {
         let s = at?;
-        if s.0 >= 1 && s.0 <= self.scopes.len { self.scopes.records[s.0 as usize - 1].parent } else { None }
+        if s.0 >= 1 && s.0 <= self.scopes.len {
+            self.scopes.records[s.0 as usize - 1].parent
+        } else {
+            None
+        }
     }
 
     // The scope so many steps outward from a scope, itself at 0, or none past the end of its chain.
@@ -124,7 +128,11 @@ impl ExprScopes {
             (λ e. (homeOf (now (self .entry) .entries .records) q ≡ s .0) × (e ≡ getD (now (self .entry) .entries .records) q noEntry)) ⌝ }
     {
         let entry = self.entries.records[q as usize];
-        if entry.scope.0 == s.0 { Some(entry) } else { None }
+        if entry.scope.0 == s.0 {
+            Some(entry)
+        } else {
+            None
+        }
     }
 
     // The entry of a scope at a place, from 0, among those of that scope alone, in order of adding.
@@ -145,7 +153,11 @@ impl ExprScopes {
     }
 
     // The first entry of a scope that has a name. Names alone are compared, hygiene is not looked at.
-    pub fn resolve_name_in_scope(&self, s: ScopeId, name: Name) -> Result<Option<ScopeEntry>, QueryRefusal>
+    pub fn resolve_name_in_scope(
+        &self,
+        s: ScopeId,
+        name: Name,
+    ) -> Result<Option<ScopeEntry>, QueryRefusal>
         ensures is_the_first_of_that_name_or_refused { λ r. ⌜ For-scope (now (self .entry)) s r (λ e. e ≡ firstNamed (name .0) (entriesOf (s .0) (allEntries (now (self .entry))))) ⌝ }
     {
         let data = self.scope(s)?;

@@ -22,7 +22,10 @@ impl Scopes {
         ensures is_blank { λ r. ⌜ r .records ≡ replicate 1023 blankScope ⌝ }
         ensures it_alone { λ r. ⌜ map bareScope (take (r .len) (r .records)) ≡ noScope ∷ [] ⌝ }
     {
-        Scopes { records: [BLANK_SCOPE; 1023], len: 1 }
+        Scopes {
+            records: [BLANK_SCOPE; 1023],
+            len: 1,
+        }
     }
 
     // One scope more; its number.
@@ -60,7 +63,10 @@ impl Entries {
         ensures none { λ r. ⌜ r .len ≡ 0 ⌝ }
         ensures lists_nothing { λ r. ⌜ map bareEntry (take (r .len) (r .records)) ≡ [] ⌝ }
     {
-        Entries { records: [BLANK_ENTRY; 512], len: 0 }
+        Entries {
+            records: [BLANK_ENTRY; 512],
+            len: 0,
+        }
     }
 
     pub(crate) fn push(&mut self, entry: ScopeEntry)
@@ -80,7 +86,9 @@ impl Recorded {
     pub(crate) fn new() -> Recorded
         ensures nothing { λ r. ⌜ r .records ≡ replicate 512 None ⌝ }
     {
-        Recorded { records: [None; 512] }
+        Recorded {
+            records: [None; 512],
+        }
     }
 
     pub(crate) fn put(&mut self, n: NodeId, s: ScopeId)

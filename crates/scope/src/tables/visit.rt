@@ -43,7 +43,11 @@ pub(crate) fn look(body: &Body, n: NodeId) -> Node
 {
     match body.node(n) {
         Some(node) => node,
-        None => Node { kind: NodeKind::Leaf, first: 0, count: 0 },
+        None => Node {
+            kind: NodeKind::Leaf,
+            first: 0,
+            count: 0,
+        },
     }
 }
 
@@ -58,7 +62,12 @@ impl ExprScopes {
         ensures kept { λ _. ⌜ now (self .exit) .entries .len ≡ now (self .entry) .entries .len ⌝ }
     {
         let at = self.entries.len;
-        self.scopes.push(ScopeData { parent: Some(parent), kind, start: at, end: at })
+        self.scopes.push(ScopeData {
+            parent: Some(parent),
+            kind,
+            start: at,
+            end: at,
+        })
     }
 
     fn place(&mut self, n: NodeId, s: ScopeId)
@@ -77,7 +86,12 @@ impl ExprScopes {
         ensures scopes { λ _. ⌜ now (self .exit) .scopes .len ≡ now (self .entry) .scopes .len ⌝ }
         ensures grown { λ _. ⌜ now (self .exit) .entries .len ≡ now (self .entry) .entries .len + 1 ⌝ }
     {
-        self.entries.push(ScopeEntry { name: Name(0), hygiene: HygieneId(0), binding, scope: s });
+        self.entries.push(ScopeEntry {
+            name: Name(0),
+            hygiene: HygieneId(0),
+            binding,
+            scope: s,
+        });
         self.scopes.widen(s, self.entries.len);
     }
 
@@ -98,7 +112,10 @@ impl ExprScopes {
             }
             None => {
                 let current = self.make(at.current, labelled_kind(label));
-                Place { current, constant: at.constant }
+                Place {
+                    current,
+                    constant: at.constant,
+                }
             }
         }
     }
@@ -113,7 +130,10 @@ impl ExprScopes {
         ensures kept { λ _. ⌜ now (self .exit) .entries .len ≡ now (self .entry) .entries .len ⌝ }
     {
         let current = self.make(at.current, kind);
-        Place { current, constant: at.constant }
+        Place {
+            current,
+            constant: at.constant,
+        }
     }
 }
 
@@ -125,7 +145,10 @@ impl ExprScopes {
         ensures grown { λ r. ⌜ Grown (now (self .entry)) (now (self .exit)) r (sizeOf (shapeOf (now (body .entry))) (n .raw)) ⌝ }
     {
         let node = look(body, n);
-        let still = Place { current: at.constant, constant: at.constant };
+        let still = Place {
+            current: at.constant,
+            constant: at.constant,
+        };
         match node.kind {
             NodeKind::Leaf => {
                 self.place(n, at.current);

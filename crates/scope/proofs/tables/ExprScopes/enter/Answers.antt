@@ -31,15 +31,24 @@ ghost-self c =
     let es2 = set es n e in
     let P : (List ScopeData → List ScopeEntry → ℕ → ℕ → Type 0) → Type 0 = λ Q. Q (c .widen .last .self .records) (c .push .last .self .records) (c .widen .last .self .len) (c .push .last .self .len) in
     let move : (Q : List ScopeData → List ScopeEntry → ℕ → ℕ → Type 0) → Q rs2 es2 m (n + 1) → P Q =
-          λ Q h. subst (λ xs. Q xs (c .push .last .self .records) (c .widen .last .self .len) (c .push .last .self .len)) (sym ws)
-            (subst (λ ys. Q rs2 ys (c .widen .last .self .len) (c .push .last .self .len)) (sym we)
-            (subst (λ i. Q rs2 es2 i (c .push .last .self .len)) (sym os) (subst (λ j. Q rs2 es2 m j) (sym oe) h))) in
-    (move (λ xs ys i j. Homed ys j i) (added-homed rs es m n s e le ls refl (c .pre .there) (t .homed)),
-    (move (λ xs ys i j. Real ys j) (added-real rs es m n s e le ls refl (c .pre .there) (t .real)),
-    (move (λ xs ys i j. Starts-before xs ys j) (added-after rs es m n s e le ls refl (c .pre .there) (t .started) (t .after)),
-    (move (λ xs ys i j. Ends-after xs ys j) (added-before rs es m n s e le ls refl (c .pre .there) (t .before)),
-    (move (λ xs ys i j. Started xs i j) (added-started rs es m n s e le ls refl (c .pre .there) (t .started)),
-    (move (λ xs ys i j. Ended xs i j) (added-ended rs es m n s e le ls refl (c .pre .there) (t .ended)), tt))))))
+    λ Q h. subst (λ xs. Q xs (c .push .last .self .records) (c .widen .last .self .len) (c .push .last .self .len)) (sym ws)
+    (subst (λ ys. Q rs2 ys (c .widen .last .self .len) (c .push .last .self .len)) (sym we)
+    (subst (λ i. Q rs2 es2 i (c .push .last .self .len)) (sym os) (subst (λ j. Q rs2 es2 m j) (sym oe) h))) in (
+      move (λ xs ys i j. Homed ys j i) (added-homed rs es m n s e le ls refl (c .pre .there) (t .homed)),
+      (
+        move (λ xs ys i j. Real ys j) (added-real rs es m n s e le ls refl (c .pre .there) (t .real)),
+        (
+          move (λ xs ys i j. Starts-before xs ys j) (added-after rs es m n s e le ls refl (c .pre .there) (t .started) (t .after)),
+          (
+            move (λ xs ys i j. Ends-after xs ys j) (added-before rs es m n s e le ls refl (c .pre .there) (t .before)),
+            (
+              move (λ xs ys i j. Started xs i j) (added-started rs es m n s e le ls refl (c .pre .there) (t .started)),
+              (move (λ xs ys i j. Ended xs i j) (added-ended rs es m n s e le ls refl (c .pre .there) (t .ended)), tt),
+            ),
+          ),
+        ),
+      ),
+    )
 
 pub returns : need.returns
 unfolding added

@@ -44,15 +44,16 @@ loop-q-again c =
     let le : q < length (allEntries t) = omega (arith, entry-count t s (d .0)) in
     let at = entry-at t s (d .0) q lt in
     elim (c .match-is-of .came) [
-      in-Some·else-left-eq0 w ↦
-        let h = w .in-Some .ensures tt .it-or-none in
-        let here = own-here (s .0) (allEntries t) q le (ap (λ x. x .scope .0) at ∙ h .0) in
-        let rest = entriesOf (s .0) (drop (q + 1) (allEntries t)) in
-        ap (found rest) (w .left-is) ∙ (sym (found-next (getD (allEntries t) q noEntry) rest (c .loop-q .left) (omega (arith, w .if-left-eq0 .left))) ∙ (sym (ap (λ es. found es (c .loop-q .left)) here) ∙ c .loop-q .inv))
+      | in-Some·else-left-eq0 w ↦
+          let h = w .in-Some .ensures tt .it-or-none in
+          let here = own-here (s .0) (allEntries t) q le (ap (λ x. x .scope .0) at ∙ h .0) in
+          let rest = entriesOf (s .0) (drop (q + 1) (allEntries t)) in
+          ap (found rest) (w .left-is) ∙ (sym (found-next (getD (allEntries t) q noEntry) rest (c .loop-q .left) (omega (arith, w .if-left-eq0 .left))) ∙ (sym (ap (λ es. found es (c .loop-q .left)) here) ∙ c .loop-q .inv))
       | in-rest w ↦
-        let h = w .in-rest .ensures tt .it-or-none in
-        let other = own-other (s .0) (allEntries t) q le (λ e. h (sym (ap (λ x. x .scope .0) at) ∙ e)) in
-        ap (found (entriesOf (s .0) (drop (q + 1) (allEntries t)))) (w .left-is) ∙ (sym (ap (λ es. found es (c .loop-q .left)) other) ∙ c .loop-q .inv) ]
+          let h = w .in-rest .ensures tt .it-or-none in
+          let other = own-other (s .0) (allEntries t) q le (λ e. h (sym (ap (λ x. x .scope .0) at) ∙ e)) in
+          ap (found (entriesOf (s .0) (drop (q + 1) (allEntries t)))) (w .left-is) ∙ (sym (ap (λ es. found es (c .loop-q .left)) other) ∙ c .loop-q .inv)
+    ]
 
 pub returns : need.returns
 returns c =

@@ -19,13 +19,22 @@ ghost-self c =
     let x : ScopeData = record { parent = Some (c .args .parent); kind = c .args .kind; start = n; end = n } in
     let w = c .push .ensures .written in
     let o = c .push .ensures .one-more in
-    let l = c .push .ensures .within in
-    ((λ q k. omega (arith, t .homed q k, o)),
-    (t .real,
-    (subst (λ xs. Starts-before xs es n) (sym w) (made-after rs es m n x l (t .homed) (t .real) (t .after)),
-    (subst (λ xs. Ends-after xs es n) (sym w) (made-before rs es m n x l (t .homed) (t .real) (t .before)),
-    (subst (λ xs. Started xs (c .push .last .self .len) n) (sym w) (subst (λ k. Started (set rs m x) k n) (sym o) (made-started rs es m n x l (omega arith) (t .started))),
-    (subst (λ xs. Ended xs (c .push .last .self .len) n) (sym w) (subst (λ k. Ended (set rs m x) k n) (sym o) (made-ended rs es m n x l (omega arith) (t .ended))), tt))))))
+    let l = c .push .ensures .within in (
+      (λ q k. omega (arith, t .homed q k, o)),
+      (
+        t .real,
+        (
+          subst (λ xs. Starts-before xs es n) (sym w) (made-after rs es m n x l (t .homed) (t .real) (t .after)),
+          (
+            subst (λ xs. Ends-after xs es n) (sym w) (made-before rs es m n x l (t .homed) (t .real) (t .before)),
+            (
+              subst (λ xs. Started xs (c .push .last .self .len) n) (sym w) (subst (λ k. Started (set rs m x) k n) (sym o) (made-started rs es m n x l (omega arith) (t .started))),
+              (subst (λ xs. Ended xs (c .push .last .self .len) n) (sym w) (subst (λ k. Ended (set rs m x) k n) (sym o) (made-ended rs es m n x l (omega arith) (t .ended))), tt),
+            ),
+          ),
+        ),
+      ),
+    )
 
 pub returns : need.returns
 unfolding made

@@ -27,25 +27,43 @@ use Rattle.scope.proofs.tables.ExprScopes.new_body.Needs as need
 pub ghost-tree : need.ghost-tree
 ghost-tree c =
     let z = c .new .ensures .none in
-    let bl : (k : ℕ) → getD (c .root .result .records) k blankScope ≡ blankScope = λ k. ap (λ rs. getD rs k blankScope) (c .root .ensures .is-blank) ∙ blanks 1023 k in
-    ((λ q k. absurd (omega arith)),
-    ((λ q k. absurd (omega arith)),
-    ((λ q k. absurd (omega arith)),
-    ((λ q k. absurd (omega arith)),
-    ((λ k h. omega (arith, ap (λ r. r .start) (bl k))),
-    ((λ k h. omega (arith, ap (λ r. r .end) (bl k))), tt))))))
+    let bl : (k : ℕ) → getD (c .root .result .records) k blankScope ≡ blankScope = λ k. ap (λ rs. getD rs k blankScope) (c .root .ensures .is-blank) ∙ blanks 1023 k in (
+      (λ q k. absurd (omega arith)),
+      (
+        (λ q k. absurd (omega arith)),
+        (
+          (λ q k. absurd (omega arith)),
+          (
+            (λ q k. absurd (omega arith)),
+            (
+              (λ k h. omega (arith, ap (λ r. r .start) (bl k))),
+              ((λ k h. omega (arith, ap (λ r. r .end) (bl k))), tt),
+            ),
+          ),
+        ),
+      ),
+    )
 
 pub ghost-tree-2 : need.ghost-tree-2
 ghost-tree-2 c =
     let t = c .visit-at .last .self in
     let o = c .name-all .ensures .as-many in
-    let h = c .name-all .ensures .same-homes in
-    ((λ q k. omega (arith, h q, t .homed q (omega arith))),
-    ((λ q k. omega (arith, h q, t .real q (omega arith))),
-    ((λ q k. omega (arith, ap (λ y. getD (t .scopes .records) (y - 1) blankScope .start) (h q), t .after q (omega arith))),
-    ((λ q k. omega (arith, ap (λ y. getD (t .scopes .records) (y - 1) blankScope .end) (h q), t .before q (omega arith))),
-    ((λ k l. omega (arith, o, t .started k l)),
-    ((λ k l. omega (arith, o, t .ended k l)), tt))))))
+    let h = c .name-all .ensures .same-homes in (
+      (λ q k. omega (arith, h q, t .homed q (omega arith))),
+      (
+        (λ q k. omega (arith, h q, t .real q (omega arith))),
+        (
+          (λ q k. omega (arith, ap (λ y. getD (t .scopes .records) (y - 1) blankScope .start) (h q), t .after q (omega arith))),
+          (
+            (λ q k. omega (arith, ap (λ y. getD (t .scopes .records) (y - 1) blankScope .end) (h q), t .before q (omega arith))),
+            (
+              (λ k l. omega (arith, o, t .started k l)),
+              ((λ k l. omega (arith, o, t .ended k l)), tt),
+            ),
+          ),
+        ),
+      ),
+    )
 
 pub visit-each-requires : need.visit-each-requires
 visit-each-requires c κs =
@@ -85,9 +103,10 @@ returns c =
     let reach : Reach-in b m z = subst (λ q. Reach-in b m q) is (law b m tree) in
     record {
       is-the-tree-of-the-visit = is;
-      fits-its-tables =
-        (omega (arith, length-map (take (va .scopes .len) (va .scopes .records)) bareScope, length-take (va .scopes .len) (va .scopes .records), va .scopes .few),
-        omega (arith, length-map (take (c .name-all .last .self .len) (c .name-all .last .self .records)) bareEntry, length-take (c .name-all .last .self .len) (c .name-all .last .self .records), c .name-all .last .self .few));
+      fits-its-tables = (
+        omega (arith, length-map (take (va .scopes .len) (va .scopes .records)) bareScope, length-take (va .scopes .len) (va .scopes .records), va .scopes .few),
+        omega (arith, length-map (take (c .name-all .last .self .len) (c .name-all .last .self .records)) bareEntry, length-take (c .name-all .last .self .len) (c .name-all .last .self .records), c .name-all .last .self .few),
+      );
       records-every-expression = subst (λ q. All-recorded b m q) is (recorded b m tree);
       records-nothing-else = subst (λ q. Only-expressions b q) is (only-expressions b m tree);
       is-a-tree = tree-of-scopes (va .scopes) z refl (subst (λ q. getD (q .scopes) 0 noScope ≡ noScope) is (root-first b m tree));
@@ -95,5 +114,5 @@ returns c =
       sees-just-what-reaches = in-words b m z tree reach;
       holds-just-what-reaches = by-bindings b m z reach;
       names-each-entry = c .name-all .ensures .each-named;
-      is-defined-as-worked-out = examples-hold
+      is-defined-as-worked-out = examples-hold;
     }

@@ -48,15 +48,16 @@ loop-q-again c =
     let n = c .args .name .0 in
     let rest = entriesOf (s .0) (drop (q + 1) (allEntries t)) in
     elim (c .match-is-of .came) [
-      in-Some·else-entry-name w ↦
-        let h = w .in-Some .ensures tt .it-or-none in
-        let here = own-here (s .0) (allEntries t) q le (ap (λ x. x .scope .0) at ∙ h .0) in
-        let is = h .1 ∙ sym at in
-        sym (named-other n (getD (allEntries t) q noEntry) rest (λ e. w .if-entry-name .left (ap (λ x. x .name .0) is ∙ e))) ∙ (sym (ap (firstNamed n) here) ∙ c .loop-q .inv)
+      | in-Some·else-entry-name w ↦
+          let h = w .in-Some .ensures tt .it-or-none in
+          let here = own-here (s .0) (allEntries t) q le (ap (λ x. x .scope .0) at ∙ h .0) in
+          let is = h .1 ∙ sym at in
+          sym (named-other n (getD (allEntries t) q noEntry) rest (λ e. w .if-entry-name .left (ap (λ x. x .name .0) is ∙ e))) ∙ (sym (ap (firstNamed n) here) ∙ c .loop-q .inv)
       | in-rest w ↦
-        let h = w .in-rest .ensures tt .it-or-none in
-        let other = own-other (s .0) (allEntries t) q le (λ e. h (sym (ap (λ x. x .scope .0) at) ∙ e)) in
-        sym (ap (firstNamed n) other) ∙ c .loop-q .inv ]
+          let h = w .in-rest .ensures tt .it-or-none in
+          let other = own-other (s .0) (allEntries t) q le (λ e. h (sym (ap (λ x. x .scope .0) at) ∙ e)) in
+          sym (ap (firstNamed n) other) ∙ c .loop-q .inv
+    ]
 
 pub returns : need.returns
 returns c =

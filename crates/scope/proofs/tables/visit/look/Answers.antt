@@ -25,7 +25,7 @@ returns-in-Some c =
       size = size-is (shapeOf b) (falls-law b) n;
       first = total-more ws 0;
       second = omega (arith, total-more ws 1, total-more ws 2);
-      pairs = omega (arith, total-more ws 1, pairs-split (drop 2 ws), ap (λ k. total (others k)) (drop-drop 1 2 ws))
+      pairs = omega (arith, total-more ws 1, pairs-split (drop 2 ws), ap (λ k. total (others k)) (drop-drop 1 2 ws));
     }
 
 pub returns-in-None : need.returns-in-None
@@ -40,5 +40,5 @@ returns-in-None c =
       size = size-is (shapeOf b) (falls-law b) n;
       first = total-more ws 0;
       second = omega (arith, total-more ws 1, total-more ws 2);
-      pairs = omega (arith, total-more ws 1, pairs-split (drop 2 ws), ap (λ k. total (others k)) (drop-drop 1 2 ws))
+      pairs = omega (arith, total-more ws 1, pairs-split (drop 2 ws), ap (λ k. total (others k)) (drop-drop 1 2 ws));
     }

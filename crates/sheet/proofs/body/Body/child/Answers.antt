@@ -29,7 +29,7 @@ returns-then-place-node c =
     let n = getD (listed (b .nodes)) i blank in
     record {
       is-that-child = sym (getD-past (take (n .count) (drop (n .first) (listed (b .children)))) (c .args .place) None (omega (arith, length-take (n .count) (drop (n .first) (listed (b .children))), ap (λ m. m .count) (h .1), c .if-place-node .taken)));
-      is-lower = omega (arith, c .args .n .real)
+      is-lower = omega (arith, c .args .n .real);
     }
 
 pub at-requires : need.at-requires
@@ -56,5 +56,5 @@ returns c =
     let e = ap numberOf at ∙ (sym (getD-map numberOf cs q None 0 l) ∙ ap (λ m. getD (map numberOf cs) (m .first + j) 0) (h .1)) in
     record {
       is-that-child = at ∙ (ap (λ m. getD cs (m .first + j) None) (h .1) ∙ sym (getD-take (n .count) (drop (n .first) cs) j None k ∙ getD-drop (n .first) cs j None));
-      is-lower = omega (arith, e, b .lower i j (h .0) k, c .args .n .real)
+      is-lower = omega (arith, e, b .lower i j (h .0) k, c .args .n .real);
     }
