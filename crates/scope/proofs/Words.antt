@@ -13,7 +13,7 @@ use Rattle.scope.specs.Shape.{Shape, Below}
 use Rattle.scope.specs.Visit.{State, others, selfIn}
 use Rattle.scope.specs.Tables.{kindOf, kids, kid, Node-of, turn}
 use Rattle.scope.specs.Law.{Tree-law, Listed-for, Reach-in, parameters, selfOf, Among, binds, leaves, joined, allBinds, gathered, brings, bindStep, leaveStep}
-use Rattle.scope.specs.Words.{Bound-in, Lasts, Brings, Reaches, Reach-law, twice}
+use Rattle.scope.specs.Words.{Bound-in, Brings, Comes, Lasts, Reach-law, Reaches, Stays-below, Under, twice}
 use Rattle.scope.proofs.Whole.{low, binds-are, leaves-are}
 use Rattle.scope.proofs.Reach.{among-left, among-right, among-split}
 use Rattle.scope.proofs.EachKind.{tail-at, leaves-at, others-at, turn-twice}
@@ -261,3 +261,14 @@ pub in-words : (b : Shape) (m : ℕ) (s : State) → Tree-law b m → Reach-in b
 in-words b m s t law e r k =
     let g = law e r k in
     record { binds = g .binds; met = g .met; scope = λ x. (λ a. words-to b m t x (suc e) (g .reach x .0 a), λ a. g .reach x .1 (words-of b m t x (suc e) a)) }
+
+comes-below : (b : Shape) (m x p i : ℕ) → Comes b m x p → Comes b m x (kid b p i)
+comes-below b m x p i (Comes.from-parameter j u) = Comes.from-parameter j u
+comes-below b m x p i (Comes.from-self v s q) = Comes.from-self v s q
+comes-below b m x p i (Comes.from-above r j u w) = Comes.from-above r j u (Under.deeper p i w)
+
+pub stays-below : Stays-below
+stays-below b m x e (Reaches.parameter i c u) = Comes.from-parameter i u
+stays-below b m x e (Reaches.self v c s q) = Comes.from-self v s q
+stays-below b m x e (Reaches.brought p i h u) = Comes.from-above p i u Under.here
+stays-below b m x e (Reaches.kept p i h f a) = comes-below b m x p i (stays-below b m x p a)

@@ -1,3 +1,4 @@
+-- The nodes and children of a body, as lists.
 use Rattle.sheet.specs.declared.body.Body.{Body}
 use Rattle.sheet.specs.Tables.{listed}
 use Rattle.scope.specs.Shape.{Shape}

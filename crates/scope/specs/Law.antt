@@ -1,3 +1,4 @@
+-- The laws of a scope tree: its form, and the binds in sight at each node, as lists.
 use mathlib.Core.Path.{_≡_}
 use mathlib.Core.List.{List, [], _∷_, _++_, map}
 use mathlib.Core.Bool.{Bool, true, false, cond}

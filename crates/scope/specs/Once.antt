@@ -1,3 +1,4 @@
+-- That every node but the last is a child exactly once, by counting.
 use mathlib.Core.Path.{_≡_}
 use mathlib.Core.List.{List, [], _∷_, _++_}
 use mathlib.Core.Bool.{cond}

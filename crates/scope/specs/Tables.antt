@@ -1,3 +1,4 @@
+-- The nodes of a body, by number: their kinds, their children, and what a lawful body has of them.
 use mathlib.Core.Path.{_≡_}
 use mathlib.Core.List.{List, [], _∷_, _++_, map}
 use mathlib.Core.Bool.{Bool, true, false, cond}

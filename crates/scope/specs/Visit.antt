@@ -1,3 +1,4 @@
+-- The scope tree by definition: the visit of a body, one clause for each kind of node.
 use mathlib.Core.Path.{_≡_}
 use mathlib.Core.List.{List, [], _∷_, _++_, map}
 use Prim.Native.Nat.{ℕ, suc, zero, _+_, _-_, _*_, _<_, _≤_}

@@ -77,3 +77,18 @@ pub record Agrees (b : Shape) (m : ℕ) (s : State) (e : ℕ) (r : ScopeId) : Ty
 -- THE LAW OF REACH: so it is at every node with a recorded scope
 abbrev pub Reach-law : Shape → ℕ → State → Type 0
 Reach-law b m s = (e : ℕ) (r : ScopeId) → getD (s .placed) e None ≡ Some r → Agrees b m s (suc e) r
+
+-- e stands at n or below it
+pub data Under (b : Shape) (n : ℕ) : ℕ → Type 0 where
+  here : Under b n n
+  deeper : (p i : ℕ) → Under b n p → Under b n (kid b p i)
+
+-- where a name that is in scope at e comes from: it is a parameter's, it is self, or a node brings it into scope for a child at or below which e stands
+pub data Comes (b : Shape) (m x e : ℕ) : Type 0 where
+  from-parameter : (i : ℕ) → Bound-in b x (kid b m (suc i)) → Comes b m x e
+  from-self : (v : BindingId) → x ≡ m → kindOf b m ≡ Body (Some v) → Comes b m x e
+  from-above : (p i : ℕ) → Brings b x p i → Under b (kid b p i) e → Comes b m x e
+
+-- no name is in scope elsewhere: what a let inside a pattern's expression binds, in particular, is not seen outside that expression
+abbrev pub Stays-below : Type 0
+Stays-below = (b : Shape) (m x e : ℕ) → Reaches b m x e → Comes b m x e

@@ -3,11 +3,11 @@ ghost use Prim.Native.Nat.{ℕ, _+_, _<_, _≤_};
 ghost use Rattle.scope.specs.Blank.{bareEntry};
 ghost use Rattle.scope.specs.Examples.{Examples-hold};
 ghost use Rattle.scope.specs.Held.{shapeOf};
-ghost use Rattle.scope.specs.Law.{All-recorded, Blocks-hold-none, Entries-in, Only-expressions, Tree-of-scopes};
+ghost use Rattle.scope.specs.Law.{All-recorded, Blocks-hold-none, Entries-in, Met-once, Only-expressions, Tree-of-scopes};
 ghost use Rattle.scope.specs.Named.{Named, nameOf, noEntry, renamed};
 ghost use Rattle.scope.specs.Ranges.{homeOf};
 ghost use Rattle.scope.specs.Visit.{built, selfIn, selfed, told};
-ghost use Rattle.scope.specs.Words.{Reach-law};
+ghost use Rattle.scope.specs.Words.{Reach-law, Stays-below};
 ghost use Rattle.sheet.specs.Held.{bindingsOf, nodesOf};
 ghost use lib.ListN.{getD, length, set, take};
 ghost use mathlib.Core.List.{map};
@@ -111,6 +111,8 @@ impl ExprScopes {
         ensures is_a_tree { λ r. ⌜ Tree-of-scopes (told r) ⌝ }
         ensures gives_blocks_no_entry { λ r. ⌜ Blocks-hold-none (told r) ⌝ }
         ensures sees_just_what_reaches { λ r. ⌜ Reach-law (shapeOf (now (body .entry))) (length (nodesOf (now (body .entry)))) (told r) ⌝ }
+        ensures sees_no_name_beyond_what_brings_it { λ _. ⌜ Stays-below ⌝ }
+        ensures meets_one_list_from_each_scope { λ _. ⌜ Met-once ⌝ }
         ensures holds_just_what_reaches { λ r. ⌜ Entries-in (shapeOf (now (body .entry))) (length (nodesOf (now (body .entry)))) (told r) ⌝ }
         ensures names_each_entry { λ r. ⌜ Named (bindingsOf (now (body .entry))) (take (r .entries .len) (r .entries .records)) ⌝ }
         ensures is_defined_as_worked_out { λ _. ⌜ Examples-hold ⌝ }

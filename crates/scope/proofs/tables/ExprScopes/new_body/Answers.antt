@@ -18,10 +18,10 @@ use Rattle.scope.proofs.Chains.{tree-of-scopes}
 use Rattle.scope.proofs.Fold.{total-more}
 use Rattle.scope.proofs.Laws.{falls-law, tree-law}
 use Rattle.scope.proofs.Ranges.{blanks}
-use Rattle.scope.proofs.Reach.{law, by-bindings}
+use Rattle.scope.proofs.Reach.{law, by-bindings, met-once}
 use Rattle.scope.proofs.Record.{recorded}
 use Rattle.scope.proofs.Whole.{blocks-hold-none, only-expressions, root-first}
-use Rattle.scope.proofs.Words.{in-words}
+use Rattle.scope.proofs.Words.{in-words, stays-below}
 use Rattle.scope.proofs.tables.ExprScopes.new_body.Needs as need
 
 pub ghost-tree : need.ghost-tree
@@ -112,6 +112,8 @@ returns c =
       is-a-tree = tree-of-scopes (va .scopes) z refl (subst (λ q. getD (q .scopes) 0 noScope ≡ noScope) is (root-first b m tree));
       gives-blocks-no-entry = subst Blocks-hold-none is (blocks-hold-none b m tree);
       sees-just-what-reaches = in-words b m z tree reach;
+      sees-no-name-beyond-what-brings-it = stays-below;
+      meets-one-list-from-each-scope = met-once;
       holds-just-what-reaches = by-bindings b m z reach;
       names-each-entry = c .name-all .ensures .each-named;
       is-defined-as-worked-out = examples-hold;
