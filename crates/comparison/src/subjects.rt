@@ -16,7 +16,7 @@ enum Subject {
     Scope,
     Entry,
     Expression,
-    // What is compared later: uses, searches, entering, tallies and proposals.
+    // What is compared later: uses, look-ups, entering, tallies and proposals.
     Later,
 }
 

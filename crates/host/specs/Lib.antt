@@ -1,0 +1,4 @@
+pub mod Meaning
+pub mod First
+pub mod Names
+pub mod Added
