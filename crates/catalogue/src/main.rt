@@ -1,4 +1,6 @@
 // Prints what body sheets hold, with their scope trees, or why they are refused: those of the named files, or an example.
+#![tactic(auto)]
+
 mod example;
 mod listing;
 mod show;

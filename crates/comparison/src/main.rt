@@ -1,5 +1,7 @@
 // Compares what the library says of stored sheets with what is stored beside each: NNN.body has
 // the sheet, NNN.expect the expectation line by line, and INDEX.txt names them all.
+#![tactic(auto)]
+
 ghost use Rattle.std.specs.Prelude.{◌≡◌, ◌+◌, min, OnOk};
 
 mod compared;

@@ -1,5 +1,7 @@
 // The frame of a sheet: how its numbers are read, its sections as parts of the caller's bytes, and
 // what a sheet can be refused for.
+#![tactic(auto)]
+
 pub mod bytes;
 pub mod fault;
 mod frame;

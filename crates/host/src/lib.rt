@@ -1,4 +1,6 @@
 // What stands around a body: its items, its constant parameters, and the macros that wrote it.
+#![tactic(auto)]
+
 pub mod hosts;
 pub mod item;
 pub mod names;

@@ -1,4 +1,6 @@
 // Replays the stored sheets: what the reader answers to each is compared with what its case states.
+#![tactic(auto)]
+
 mod answer;
 mod case;
 mod outcome;

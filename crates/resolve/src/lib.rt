@@ -1,4 +1,6 @@
 // What a name means: the first declaration that a look-up outward comes to.
+#![tactic(auto)]
+
 mod context;
 mod entries;
 mod outside;

@@ -1,4 +1,6 @@
 // The body sheet read into tables: which bytes are accepted, and what the tables then hold.
+#![tactic(auto)]
+
 pub mod body;
 mod children;
 mod claims;

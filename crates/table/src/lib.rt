@@ -1,4 +1,6 @@
 // Fixed tables: up to so many records, in order of adding, and no memory asked for.
+#![tactic(auto)]
+
 ghost use Rattle.std.specs.Prelude.{◌≡◌, ℕ, ◌≤◌, length};
 
 // The first `len` of N records count, the rest are blank.
