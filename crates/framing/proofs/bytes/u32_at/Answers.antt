@@ -4,4 +4,4 @@ use Rattle.framing.proofs.bytes.u32_at.Goals as goal
 
 pub returns : goal.returns
 unfolding u32at
-returns c = record { reads-them = λ h. search rules; else-0 = λ h. absurd (omega arith) }
+returns c = record { reads_them = λ h. search rules; else_0 = λ h. absurd (omega arith) }

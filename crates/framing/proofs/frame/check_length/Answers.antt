@@ -12,28 +12,28 @@ use Rattle.framing.proofs.frame.check_length.Goals as goal
 pub loop-part-init : goal.loop-part-init
 loop-part-init c = (sym (start_first _ _), omega arith)
 
-pub end-of-requires : goal.end-of-requires
-end-of-requires c = record { within = c.loop-part.invariant.1 }
+pub end_of-requires : goal.end_of-requires
+end_of-requires c = record { within = c.loop-part.invariant.1 }
 
-pub returns-in-err-at : goal.returns-in-err-at
-returns-in-err-at c =
-    let p = err_from_is_err_and c.from-residual.result c.from-residual.ensures.1 in
-    let h = c.in-err-at.ensures.its-end-or-runs-past in
+pub returns-in_err-at : goal.returns-in_err-at
+returns-in_err-at c =
+    let p = err_from_is_err_and c.from_residual.result c.from_residual.ensures.1 in
+    let h = c.in_err-at.ensures.its_end_or_runs_past in
     let bs = c.args.bytes.now in
     let plan = c.plan-part-items.result.now in
     let i = c.loop-part.part-index in
-    let e = c.plan-part-items.ensures.is-its-plan in
-    let says : 5 + u32at bs 1 ≡ length bs = omega (arith, c.u32-at.ensures.reads-them (omega arith)) in
+    let e = c.plan-part-items.ensures.is_its_plan in
+    let says : 5 + u32at bs 1 ≡ length bs = omega (arith, c.u32_at.ensures.reads_them (omega arith)) in
     let more = subst (λ a. start_at bs plan (i + 1) ≡ end_from bs a (width_of (get_or plan i P.Whole))) (sym c.loop-part.invariant.0) (start_more bs plan i) in
     let begins = subst (λ ps. start_at bs ps i ≤ length bs) e (omega (arith, c.loop-part.invariant)) in
     let past = subst (λ ps. length bs < start_at bs ps (i + 1)) e (omega (arith, more, h.1)) in
     rw (p.1, p.2) record {
-      fits-or-the-first-refused = length_first c.args.format bs i _ (omega (arith, ap length e)) says begins past (subst (λ ps. NoRecord R.Length (get_or ps i P.Whole) c.in-err-at.field-0.0) e h.0);
+      fits_or_the_first_refused = length_first c.args.format bs i _ (omega (arith, ap length e)) says begins past (subst (λ ps. NoRecord R.Length (get_or ps i P.Whole) c.in_err-at.field-0.0) e h.0);
     }
 
 pub loop-part-preserved : goal.loop-part-preserved
 loop-part-preserved c =
-    let h = c.in-ok-at.ensures.its-end-or-runs-past in
+    let h = c.in_ok-at.ensures.its_end_or_runs_past in
     let bs = c.args.bytes.now in
     let plan = c.plan-part-items.result.now in
     let i = c.loop-part.part-index in
@@ -42,10 +42,10 @@ loop-part-preserved c =
 
 pub returns-then-at-bytes : goal.returns-then-at-bytes
 returns-then-at-bytes c =
-    let e = end_reached c.args.bytes.now c.args.format _ _ _ c.plan-part-items.ensures.is-its-plan c.loop-part.auto.part-index-end c.loop-part-test.false c.loop-part.invariant.0 in
-    record { fits-or-the-first-refused = whole_first c.args.format c.args.bytes.now _ (λ x. omega (arith, x.none_left, e, c.if-at-bytes.true)) c.refused-then-at-bytes.ensures.at-no-record }
+    let e = end_reached c.args.bytes.now c.args.format _ _ _ c.plan-part-items.ensures.is_its_plan c.loop-part.auto.part-index-end c.loop-part-test.false c.loop-part.invariant.0 in
+    record { fits_or_the_first_refused = whole_first c.args.format c.args.bytes.now _ (λ x. omega (arith, x.none_left, e, c.if-at-bytes.true)) c.refused-then-at-bytes.ensures.at_no_record }
 
 pub returns : goal.returns
 returns c =
-    let e = end_reached c.args.bytes.now c.args.format _ _ _ c.plan-part-items.ensures.is-its-plan c.loop-part.auto.part-index-end c.loop-part-test.false c.loop-part.invariant.0 in
-    record { fits-or-the-first-refused = (omega (arith, c.u32-at.ensures.reads-them (omega arith)), omega (arith, e, c.loop-part.invariant.1, c.if-at-bytes.false)) }
+    let e = end_reached c.args.bytes.now c.args.format _ _ _ c.plan-part-items.ensures.is_its_plan c.loop-part.auto.part-index-end c.loop-part-test.false c.loop-part.invariant.0 in
+    record { fits_or_the_first_refused = (omega (arith, c.u32_at.ensures.reads_them (omega arith)), omega (arith, e, c.loop-part.invariant.1, c.if-at-bytes.false)) }

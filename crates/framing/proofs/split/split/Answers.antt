@@ -6,13 +6,13 @@ use Rattle.framing.proofs.split.split.Goals as goal
 pub returns : goal.returns
 returns c =
     let bs = c.args.bytes.now in
-    let s = c.in-ok-check-frame.ensures.sound-or-the-first-cause in
+    let s = c.in_ok-check_frame.ensures.sound_or_the_first_cause in
     record {
-      framed-or-the-first-cause = record {
+      framed_or_the_first_cause = record {
         no_cause = s.no_cause;
-        nodes_are = holds bs P.Nodes _ (omega arith) c.records.ensures.are-the-sections c.records.ensures.are-as-many-as-it-says (s.counts_fit 0 (omega arith));
-        children_are = holds bs P.Children _ (omega arith) c.records-2.ensures.are-the-sections c.records-2.ensures.are-as-many-as-it-says (s.counts_fit 1 (omega arith));
-        bindings_are = holds bs P.Bindings _ (omega arith) c.records-3.ensures.are-the-sections c.records-3.ensures.are-as-many-as-it-says (s.counts_fit 2 (omega arith));
-        frames_are = holds bs P.Frames _ (omega arith) c.records-4.ensures.are-the-sections c.records-4.ensures.are-as-many-as-it-says (s.counts_fit 3 (omega arith));
+        nodes_are = holds bs P.Nodes _ (omega arith) c.records.ensures.are_the_sections c.records.ensures.are_as_many_as_it_says (s.counts_fit 0 (omega arith));
+        children_are = holds bs P.Children _ (omega arith) c.records-2.ensures.are_the_sections c.records-2.ensures.are_as_many_as_it_says (s.counts_fit 1 (omega arith));
+        bindings_are = holds bs P.Bindings _ (omega arith) c.records-3.ensures.are_the_sections c.records-3.ensures.are_as_many_as_it_says (s.counts_fit 2 (omega arith));
+        frames_are = holds bs P.Frames _ (omega arith) c.records-4.ensures.are_the_sections c.records-4.ensures.are_as_many_as_it_says (s.counts_fit 3 (omega arith));
       };
     }

@@ -6,4 +6,4 @@ use Rattle.sheet.proofs.children.child_number.Goals as goal
 pub returns : goal.returns
 returns c =
     let cs = c.args.children.now in
-    record { as_written = c.u16-at.ensures.reads-them (omega arith) ∙ sym (get_or-tabulated (child_from cs) (length cs / 2) c.args.q 0 (omega arith)) }
+    record { as_written = c.u16_at.ensures.reads_them (omega arith) ∙ sym (get_or-tabulated (child_from cs) (length cs / 2) c.args.q 0 (omega arith)) }

@@ -15,9 +15,9 @@ loop-q-preserved c =
     let cs = numbers bs in
     let q = c.loop-q.q in
     let lt : q < length cs = omega (arith, length-tabulated (child_from bs) (length bs / 2), c.loop-q-test.true) in
-    let e = c.child-number-c.ensures.as_written in
+    let e = c.child_number-c.ensures.as_written in
     let P : List ℕ → Type 0 = λ t. (length t ≡ 513) × Claims cs (q + 1) t in
-    let x = c.child-number-c.result in
+    let x = c.child_number-c.result in
     let inv = c.loop-q.invariant in
     elim c.if-c-lt513.branch [
       | then-c-lt513+then-first-c-eq0 w ↦

@@ -9,25 +9,25 @@ use Rattle.sheet.proofs.place.conditions.Goals as goal
 pub loop-i-init : goal.loop-i-init
 loop-i-init c =
     let t = shape (listed c.args.nodes.now) (numbers c.args.children.now) in
-    (refl, omega (arith, c.len-i.ensures.counts-them), subst (λ n. MarkedFrom t n (replicate 513 false)) (sym c.len-i.ensures.counts-them) (marked_none t))
+    (refl, omega (arith, c.len-i.ensures.counts_them), subst (λ n. MarkedFrom t n (replicate 513 false)) (sym c.len-i.ensures.counts_them) (marked_none t))
 
-pub mark-node-requires : goal.mark-node-requires
-mark-node-requires c =
+pub mark_node-requires : goal.mark_node-requires
+mark_node-requires c =
     let t = shape (listed c.args.nodes.now) (numbers c.args.children.now) in
     record {
-      is-there = omega (arith, c.loop-i.invariant.1, c.loop-i-test.true);
+      is_there = omega (arith, c.loop-i.invariant.1, c.loop-i-test.true);
       within = c.requires.within (c.loop-i.i - 1) (omega (arith, c.loop-i.invariant.1, c.loop-i-test.true));
       few = c.requires.few;
       falls = c.requires.falls;
-      later-nodes = to_marked t c.loop-i.i (c.loop-i.i - 1) c.loop-i.marks (omega (arith, c.loop-i-test.true)) c.loop-i.invariant.2;
+      later_nodes = to_marked t c.loop-i.i (c.loop-i.i - 1) c.loop-i.marks (omega (arith, c.loop-i-test.true)) c.loop-i.invariant.2;
     }
 
 pub loop-i-preserved : goal.loop-i-preserved
 loop-i-preserved c =
     let t = shape (listed c.args.nodes.now) (numbers c.args.children.now) in
-    (c.mark-node.array_long, omega (arith, c.loop-i.invariant.1), from_marked t (c.loop-i.i - 1) _ c.mark-node.ensures.this-one-too)
+    (c.mark_node.array_long, omega (arith, c.loop-i.invariant.1), from_marked t (c.loop-i.i - 1) _ c.mark_node.ensures.this_one_too)
 
 pub returns : goal.returns
 returns c =
     let t = shape (listed c.args.nodes.now) (numbers c.args.children.now) in
-    record { just-those = marked_all t c.loop-i.marks (subst (λ x. MarkedFrom t x c.loop-i.marks) (omega (arith, c.loop-i-test.false)) c.loop-i.invariant.2) }
+    record { just_those = marked_all t c.loop-i.marks (subst (λ x. MarkedFrom t x c.loop-i.marks) (omega (arith, c.loop-i-test.false)) c.loop-i.invariant.2) }

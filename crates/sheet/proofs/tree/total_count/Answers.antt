@@ -7,6 +7,6 @@ use Rattle.sheet.proofs.tree.total_count.Goals as goal
 pub returns : goal.returns
 returns c =
     let ns = listed c.args.nodes.now in
-    let e = c.at-last.ensures.is-listed-there blank in
-    let h = laid_end (shape ns []) (c.len.result - 1) c.requires.laid_out (omega (arith, c.requires.some, c.len.ensures.counts-them)) in
-    record { is-their-sum = omega (arith, h, ap (λ n. n.first) e, ap (λ n. n.count) e) }
+    let e = c.at-last.ensures.is_listed_there blank in
+    let h = laid_end (shape ns []) (c.len.result - 1) c.requires.laid_out (omega (arith, c.requires.some, c.len.ensures.counts_them)) in
+    record { is_their_sum = omega (arith, h, ap (λ n. n.first) e, ap (λ n. n.count) e) }

@@ -7,6 +7,6 @@ returns g c =
     let t = c.args.self.now in
     let n = length-take-le t.len t.records (omega arith) in
     record {
-      says-whether-there-was-room = sym (lt-ltb (length (take t.len t.records)) g.row.N (omega arith));
-      adds-it-last-if-there-was = take_more_set t.records t.len c.args.«record» (omega arith);
+      says_whether_there_was_room = sym (lt-ltb (length (take t.len t.records)) g.row.N (omega arith));
+      adds_it_last_if_there_was = take_more_set t.records t.len c.args.«record» (omega arith);
     }

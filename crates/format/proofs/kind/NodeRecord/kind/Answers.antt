@@ -2,14 +2,14 @@ use Rattle.std.proofs.Common.{◌≡◌, sym, refl, ap, ◌∙◌, rules}
 use Rattle.format.proofs.Codes.{said, says_one}
 use Rattle.format.proofs.kind.NodeRecord.kind.Goals as goal
 
-pub returns-then-count-fits : goal.returns-then-count-fits
-returns-then-count-fits c = record {
-  says-it-or-says-none = record {
-    code_is = c.in-Some.ensures.of-that-number;
-    a_is = sym c.field-a.ensures.is-written-so ∙ c.if-field-a-self.true;
-    b_is = sym c.field-b.ensures.is-written-so ∙ c.if-field-b-self.true;
-    all_named = sym c.if-is-named.ensures.all-it-names-is-there;
-    count_fits = sym c.if-count-fits.ensures.by-the-kind;
+pub returns-then-count_fits : goal.returns-then-count_fits
+returns-then-count_fits c = record {
+  says_it_or_says_none = record {
+    code_is = c.in-Some.ensures.of_that_number;
+    a_is = sym c.field_a.ensures.is_written_so ∙ c.if-field_a-self.true;
+    b_is = sym c.field_b.ensures.is_written_so ∙ c.if-field_b-self.true;
+    all_named = sym c.if-is_named.ensures.all_it_names_is_there;
+    count_fits = sym c.if-count_fits.ensures.by_the_kind;
   };
-  says-one-at-the-most = says_one;
+  says_one_at_the_most = says_one;
 }

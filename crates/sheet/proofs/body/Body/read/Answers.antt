@@ -17,167 +17,167 @@ use Rattle.sheet.proofs.Load.{Read, framing_first, nodes_read, record_first, lai
 use Rattle.sheet.proofs.Once.{children_low, once, all_lower, falls, all_admitted, body_last}
 use Rattle.sheet.proofs.body.Body.read.Goals as goal
 
-pub returns-in-err-sheet : goal.returns-in-err-sheet
-returns-in-err-sheet c =
-    let p = err_from_is_err_and c.from-residual.result c.from-residual.ensures.1 in
-    rw (p.1, p.2) record { accepted-or-the-first-cause = framing_first c.args.bytes.now _ c.in-err-sheet.ensures.framed-or-the-first-cause }
+pub returns-in_err-sheet : goal.returns-in_err-sheet
+returns-in_err-sheet c =
+    let p = err_from_is_err_and c.from_residual.result c.from_residual.ensures.1 in
+    rw (p.1, p.2) record { accepted_or_the_first_cause = framing_first c.args.bytes.now _ c.in_err-sheet.ensures.framed_or_the_first_cause }
 
-pub returns-in-err-nodes : goal.returns-in-err-nodes
-returns-in-err-nodes c =
-    let p = err_from_is_err_and c.from-residual-in-err-nodes.result c.from-residual-in-err-nodes.ensures.1 in
+pub returns-in_err-nodes : goal.returns-in_err-nodes
+returns-in_err-nodes c =
+    let p = err_from_is_err_and c.from_residual-in_err-nodes.result c.from_residual-in_err-nodes.ensures.1 in
     let bs = c.args.bytes.now in
-    let s = c.in-ok-sheet.sheet in
-    let f = c.in-ok-sheet.ensures.framed-or-the-first-cause in
-    rw (p.1, p.2) record { accepted-or-the-first-cause = record_first bs s f _ _ _ c.bytes.ensures.are-its-records (c.count.ensures.is-its-count ∙ f.splits.bindings_are.count_is) c.in-err-nodes.ensures.all-read-or-the-first-refused }
+    let s = c.in_ok-sheet.sheet in
+    let f = c.in_ok-sheet.ensures.framed_or_the_first_cause in
+    rw (p.1, p.2) record { accepted_or_the_first_cause = record_first bs s f _ _ _ c.bytes.ensures.are_its_records (c.count.ensures.is_its_count ∙ f.splits.bindings_are.count_is) c.in_err-nodes.ensures.all_read_or_the_first_refused }
 
-pub check-tree-requires : goal.check-tree-requires
-check-tree-requires c =
+pub check_tree-requires : goal.check_tree-requires
+check_tree-requires c =
     let bs = c.args.bytes.now in
-    let s = c.in-ok-sheet.sheet in
-    let f = c.in-ok-sheet.ensures.framed-or-the-first-cause in
-    let t = c.in-ok-nodes.nodes in
+    let s = c.in_ok-sheet.sheet in
+    let f = c.in_ok-sheet.ensures.framed_or_the_first_cause in
+    let t = c.in_ok-nodes.nodes in
     let xs = c.bytes.result.now in
     let ys = c.bytes-children.result.now in
-    let d : Read bs t ys = nodes_read bs s f t xs ys c.count.result c.bytes.ensures.are-its-records c.bytes-children.ensures.are-its-records (c.count.ensures.is-its-count ∙ f.splits.bindings_are.count_is) c.in-ok-nodes.ensures.all-read-or-the-first-refused in
+    let d : Read bs t ys = nodes_read bs s f t xs ys c.count.result c.bytes.ensures.are_its_records c.bytes-children.ensures.are_its_records (c.count.ensures.is_its_count ∙ f.splits.bindings_are.count_is) c.in_ok-nodes.ensures.all_read_or_the_first_refused in
     record {
       some = omega (arith, ap length d.nodes, length-tabulated (node_from (bytes_in bs P.Nodes)) (count_of bs P.Nodes), f.node_least);
       laid_out = laid bs t ys d [];
-      few = omega (arith, ap length c.bytes-children.ensures.are-its-records, f.splits.children_are.size-is, f.child_most);
+      few = omega (arith, ap length c.bytes-children.ensures.are_its_records, f.splits.children_are.size_is, f.child_most);
     }
 
-pub returns-in-err-check-tree : goal.returns-in-err-check-tree
-returns-in-err-check-tree c =
-    let p = err_from_is_err_and c.from-residual-in-err-check-tree.result c.from-residual-in-err-check-tree.ensures.1 in
+pub returns-in_err-check_tree : goal.returns-in_err-check_tree
+returns-in_err-check_tree c =
+    let p = err_from_is_err_and c.from_residual-in_err-check_tree.result c.from_residual-in_err-check_tree.ensures.1 in
     let bs = c.args.bytes.now in
-    let s = c.in-ok-sheet.sheet in
-    let f = c.in-ok-sheet.ensures.framed-or-the-first-cause in
-    let t = c.in-ok-nodes.nodes in
+    let s = c.in_ok-sheet.sheet in
+    let f = c.in_ok-sheet.ensures.framed_or_the_first_cause in
+    let t = c.in_ok-nodes.nodes in
     let xs = c.bytes.result.now in
     let ys = c.bytes-children.result.now in
-    let d : Read bs t ys = nodes_read bs s f t xs ys c.count.result c.bytes.ensures.are-its-records c.bytes-children.ensures.are-its-records (c.count.ensures.is-its-count ∙ f.splits.bindings_are.count_is) c.in-ok-nodes.ensures.all-read-or-the-first-refused in
-    rw (p.1, p.2) record { accepted-or-the-first-cause = tree_first bs t ys d _ c.in-err-check-tree.ensures.good-or-the-first-refused }
+    let d : Read bs t ys = nodes_read bs s f t xs ys c.count.result c.bytes.ensures.are_its_records c.bytes-children.ensures.are_its_records (c.count.ensures.is_its_count ∙ f.splits.bindings_are.count_is) c.in_ok-nodes.ensures.all_read_or_the_first_refused in
+    rw (p.1, p.2) record { accepted_or_the_first_cause = tree_first bs t ys d _ c.in_err-check_tree.ensures.good_or_the_first_refused }
 
-pub check-lets-requires : goal.check-lets-requires
-check-lets-requires c =
+pub check_lets-requires : goal.check_lets-requires
+check_lets-requires c =
     let bs = c.args.bytes.now in
-    let s = c.in-ok-sheet.sheet in
-    let f = c.in-ok-sheet.ensures.framed-or-the-first-cause in
-    let t = c.in-ok-nodes.nodes in
+    let s = c.in_ok-sheet.sheet in
+    let f = c.in_ok-sheet.ensures.framed_or_the_first_cause in
+    let t = c.in_ok-nodes.nodes in
     let xs = c.bytes.result.now in
     let ys = c.bytes-children.result.now in
-    let d : Read bs t ys = nodes_read bs s f t xs ys c.count.result c.bytes.ensures.are-its-records c.bytes-children.ensures.are-its-records (c.count.ensures.is-its-count ∙ f.splits.bindings_are.count_is) c.in-ok-nodes.ensures.all-read-or-the-first-refused in
-    let g = c.in-ok-check-tree.ensures.good-or-the-first-refused in
+    let d : Read bs t ys = nodes_read bs s f t xs ys c.count.result c.bytes.ensures.are_its_records c.bytes-children.ensures.are_its_records (c.count.ensures.is_its_count ∙ f.splits.bindings_are.count_is) c.in_ok-nodes.ensures.all_read_or_the_first_refused in
+    let g = c.in_ok-check_tree.ensures.good_or_the_first_refused in
     let u = shape (listed t) (numbers ys) in
     record {
       within = λ i h. omega (arith, laid_within u i (laid bs t ys d (numbers ys)) h, g.adds_up, length-tabulated (child_from ys) (length ys / 2));
-      few = omega (arith, ap length c.bytes-children.ensures.are-its-records, f.splits.children_are.size-is, f.child_most);
+      few = omega (arith, ap length c.bytes-children.ensures.are_its_records, f.splits.children_are.size_is, f.child_most);
       falls = falls u (laid bs t ys d (numbers ys)) g;
     }
 
-pub returns-in-err-check-lets : goal.returns-in-err-check-lets
-returns-in-err-check-lets c =
-    let p = err_from_is_err_and c.from-residual-in-err-check-lets.result c.from-residual-in-err-check-lets.ensures.1 in
+pub returns-in_err-check_lets : goal.returns-in_err-check_lets
+returns-in_err-check_lets c =
+    let p = err_from_is_err_and c.from_residual-in_err-check_lets.result c.from_residual-in_err-check_lets.ensures.1 in
     let bs = c.args.bytes.now in
-    let s = c.in-ok-sheet.sheet in
-    let f = c.in-ok-sheet.ensures.framed-or-the-first-cause in
-    let t = c.in-ok-nodes.nodes in
+    let s = c.in_ok-sheet.sheet in
+    let f = c.in_ok-sheet.ensures.framed_or_the_first_cause in
+    let t = c.in_ok-nodes.nodes in
     let xs = c.bytes.result.now in
     let ys = c.bytes-children.result.now in
-    let d : Read bs t ys = nodes_read bs s f t xs ys c.count.result c.bytes.ensures.are-its-records c.bytes-children.ensures.are-its-records (c.count.ensures.is-its-count ∙ f.splits.bindings_are.count_is) c.in-ok-nodes.ensures.all-read-or-the-first-refused in
-    let g = c.in-ok-check-tree.ensures.good-or-the-first-refused in
-    rw (p.1, p.2) record { accepted-or-the-first-cause = lets_first bs t ys d g _ c.in-err-check-lets.ensures.in-place-or-the-first-refused }
+    let d : Read bs t ys = nodes_read bs s f t xs ys c.count.result c.bytes.ensures.are_its_records c.bytes-children.ensures.are_its_records (c.count.ensures.is_its_count ∙ f.splits.bindings_are.count_is) c.in_ok-nodes.ensures.all_read_or_the_first_refused in
+    let g = c.in_ok-check_tree.ensures.good_or_the_first_refused in
+    rw (p.1, p.2) record { accepted_or_the_first_cause = lets_first bs t ys d g _ c.in_err-check_lets.ensures.in_place_or_the_first_refused }
 
-pub returns-in-err-bindings : goal.returns-in-err-bindings
-returns-in-err-bindings c =
-    let p = err_from_is_err_and c.from-residual-in-err-bindings.result c.from-residual-in-err-bindings.ensures.1 in
+pub returns-in_err-bindings : goal.returns-in_err-bindings
+returns-in_err-bindings c =
+    let p = err_from_is_err_and c.from_residual-in_err-bindings.result c.from_residual-in_err-bindings.ensures.1 in
     let bs = c.args.bytes.now in
-    let s = c.in-ok-sheet.sheet in
-    let f = c.in-ok-sheet.ensures.framed-or-the-first-cause in
-    let t = c.in-ok-nodes.nodes in
+    let s = c.in_ok-sheet.sheet in
+    let f = c.in_ok-sheet.ensures.framed_or_the_first_cause in
+    let t = c.in_ok-nodes.nodes in
     let xs = c.bytes.result.now in
     let ys = c.bytes-children.result.now in
-    let d : Read bs t ys = nodes_read bs s f t xs ys c.count.result c.bytes.ensures.are-its-records c.bytes-children.ensures.are-its-records (c.count.ensures.is-its-count ∙ f.splits.bindings_are.count_is) c.in-ok-nodes.ensures.all-read-or-the-first-refused in
-    let g = c.in-ok-check-tree.ensures.good-or-the-first-refused in
-    let l = c.in-ok-check-lets.ensures.in-place-or-the-first-refused in
+    let d : Read bs t ys = nodes_read bs s f t xs ys c.count.result c.bytes.ensures.are_its_records c.bytes-children.ensures.are_its_records (c.count.ensures.is_its_count ∙ f.splits.bindings_are.count_is) c.in_ok-nodes.ensures.all_read_or_the_first_refused in
+    let g = c.in_ok-check_tree.ensures.good_or_the_first_refused in
+    let l = c.in_ok-check_lets.ensures.in_place_or_the_first_refused in
     let c6 = clear6 bs t ys d g l in
     let vs = c.bytes-2.result.now in
-    let e = c.bytes-2.ensures.are-its-records in
-    let n : length vs / 8 ≡ count_of bs P.Bindings = omega (arith, ap length e, f.splits.bindings_are.size-is) in
+    let e = c.bytes-2.ensures.are_its_records in
+    let n : length vs / 8 ≡ count_of bs P.Bindings = omega (arith, ap length e, f.splits.bindings_are.size_is) in
     rw (p.1, p.2) record {
-      accepted-or-the-first-cause = bindings_first bs c6 _
-          (canon bs (λ zs i. FirstBroken (GoodBinding zs) i R.NameOrFrame P.Bindings c.in-err-bindings.field-0.0) P.Bindings s.bindings vs (length vs / 8) f.splits.bindings_are e n c.in-err-bindings.ensures.all-read-or-the-first-refused);
+      accepted_or_the_first_cause = bindings_first bs c6 _
+          (canon bs (λ zs i. FirstBroken (GoodBinding zs) i R.NameOrFrame P.Bindings c.in_err-bindings.field-0.0) P.Bindings s.bindings vs (length vs / 8) f.splits.bindings_are e n c.in_err-bindings.ensures.all_read_or_the_first_refused);
     }
 
-pub returns-in-err-frames : goal.returns-in-err-frames
-returns-in-err-frames c =
-    let p = err_from_is_err_and c.from-residual-in-err-frames.result c.from-residual-in-err-frames.ensures.1 in
+pub returns-in_err-frames : goal.returns-in_err-frames
+returns-in_err-frames c =
+    let p = err_from_is_err_and c.from_residual-in_err-frames.result c.from_residual-in_err-frames.ensures.1 in
     let bs = c.args.bytes.now in
-    let s = c.in-ok-sheet.sheet in
-    let f = c.in-ok-sheet.ensures.framed-or-the-first-cause in
-    let t = c.in-ok-nodes.nodes in
+    let s = c.in_ok-sheet.sheet in
+    let f = c.in_ok-sheet.ensures.framed_or_the_first_cause in
+    let t = c.in_ok-nodes.nodes in
     let xs = c.bytes.result.now in
     let ys = c.bytes-children.result.now in
-    let d : Read bs t ys = nodes_read bs s f t xs ys c.count.result c.bytes.ensures.are-its-records c.bytes-children.ensures.are-its-records (c.count.ensures.is-its-count ∙ f.splits.bindings_are.count_is) c.in-ok-nodes.ensures.all-read-or-the-first-refused in
-    let g = c.in-ok-check-tree.ensures.good-or-the-first-refused in
-    let l = c.in-ok-check-lets.ensures.in-place-or-the-first-refused in
+    let d : Read bs t ys = nodes_read bs s f t xs ys c.count.result c.bytes.ensures.are_its_records c.bytes-children.ensures.are_its_records (c.count.ensures.is_its_count ∙ f.splits.bindings_are.count_is) c.in_ok-nodes.ensures.all_read_or_the_first_refused in
+    let g = c.in_ok-check_tree.ensures.good_or_the_first_refused in
+    let l = c.in_ok-check_lets.ensures.in_place_or_the_first_refused in
     let c6 = clear6 bs t ys d g l in
     let vs = c.bytes-2.result.now in
-    let ev = c.bytes-2.ensures.are-its-records in
-    let nv : length vs / 8 ≡ count_of bs P.Bindings = omega (arith, ap length ev, f.splits.bindings_are.size-is) in
-    let hv = c.in-ok-bindings.ensures.all-read-or-the-first-refused in
+    let ev = c.bytes-2.ensures.are_its_records in
+    let nv : length vs / 8 ≡ count_of bs P.Bindings = omega (arith, ap length ev, f.splits.bindings_are.size_is) in
+    let hv = c.in_ok-bindings.ensures.all_read_or_the_first_refused in
     let ov = canon bs (λ zs i. (k : ℕ) → k < i → GoodBinding zs k) P.Bindings s.bindings vs (length vs / 8) f.splits.bindings_are ev nv hv.1 in
     let ws = c.bytes-3.result.now in
-    let e = c.bytes-3.ensures.are-its-records in
-    let n : length ws / 5 ≡ count_of bs P.Frames = omega (arith, ap length e, f.splits.frames_are.size-is) in
+    let e = c.bytes-3.ensures.are_its_records in
+    let n : length ws / 5 ≡ count_of bs P.Frames = omega (arith, ap length e, f.splits.frames_are.size_is) in
     rw (p.1, p.2) record {
-      accepted-or-the-first-cause = frames_first bs c6 ov _
-          (canon bs (λ zs i. FirstBroken (GoodFrame zs) i R.NameOrFrame P.Frames c.in-err-frames.field-0.0) P.Frames s.frames ws (length ws / 5) f.splits.frames_are e n c.in-err-frames.ensures.all-read-or-the-first-refused);
+      accepted_or_the_first_cause = frames_first bs c6 ov _
+          (canon bs (λ zs i. FirstBroken (GoodFrame zs) i R.NameOrFrame P.Frames c.in_err-frames.field-0.0) P.Frames s.frames ws (length ws / 5) f.splits.frames_are e n c.in_err-frames.ensures.all_read_or_the_first_refused);
     }
 
-pub read-children-requires : goal.read-children-requires
-read-children-requires c =
+pub read_children-requires : goal.read_children-requires
+read_children-requires c =
     let bs = c.args.bytes.now in
-    let s = c.in-ok-sheet.sheet in
-    let f = c.in-ok-sheet.ensures.framed-or-the-first-cause in
-    let t = c.in-ok-nodes.nodes in
+    let s = c.in_ok-sheet.sheet in
+    let f = c.in_ok-sheet.ensures.framed_or_the_first_cause in
+    let t = c.in_ok-nodes.nodes in
     let xs = c.bytes.result.now in
     let ys = c.bytes-children.result.now in
-    let d : Read bs t ys = nodes_read bs s f t xs ys c.count.result c.bytes.ensures.are-its-records c.bytes-children.ensures.are-its-records (c.count.ensures.is-its-count ∙ f.splits.bindings_are.count_is) c.in-ok-nodes.ensures.all-read-or-the-first-refused in
-    let g = c.in-ok-check-tree.ensures.good-or-the-first-refused in
+    let d : Read bs t ys = nodes_read bs s f t xs ys c.count.result c.bytes.ensures.are_its_records c.bytes-children.ensures.are_its_records (c.count.ensures.is_its_count ∙ f.splits.bindings_are.count_is) c.in_ok-nodes.ensures.all_read_or_the_first_refused in
+    let g = c.in_ok-check_tree.ensures.good_or_the_first_refused in
     let u = shape (listed t) (numbers ys) in
     let few = listed_few t in
     record {
-      few = omega (arith, ap length c.bytes-children.ensures.are-its-records, f.splits.children_are.size-is, f.child_most);
+      few = omega (arith, ap length c.bytes-children.ensures.are_its_records, f.splits.children_are.size_is, f.child_most);
       real = λ q h. omega (arith, children_low u (laid bs t ys d (numbers ys)) g q (omega (arith, length-tabulated (child_from ys) (length ys / 2))));
     }
 
-pub invariant-of-result : goal.invariant-of-result
-invariant-of-result c =
+pub invariant_of-result : goal.invariant_of-result
+invariant_of-result c =
     let bs = c.args.bytes.now in
-    let s = c.in-ok-sheet.sheet in
-    let f = c.in-ok-sheet.ensures.framed-or-the-first-cause in
-    let t = c.in-ok-nodes.nodes in
+    let s = c.in_ok-sheet.sheet in
+    let f = c.in_ok-sheet.ensures.framed_or_the_first_cause in
+    let t = c.in_ok-nodes.nodes in
     let xs = c.bytes.result.now in
     let ys = c.bytes-children.result.now in
-    let d : Read bs t ys = nodes_read bs s f t xs ys c.count.result c.bytes.ensures.are-its-records c.bytes-children.ensures.are-its-records (c.count.ensures.is-its-count ∙ f.splits.bindings_are.count_is) c.in-ok-nodes.ensures.all-read-or-the-first-refused in
-    let g = c.in-ok-check-tree.ensures.good-or-the-first-refused in
-    let l = c.in-ok-check-lets.ensures.in-place-or-the-first-refused in
+    let d : Read bs t ys = nodes_read bs s f t xs ys c.count.result c.bytes.ensures.are_its_records c.bytes-children.ensures.are_its_records (c.count.ensures.is_its_count ∙ f.splits.bindings_are.count_is) c.in_ok-nodes.ensures.all_read_or_the_first_refused in
+    let g = c.in_ok-check_tree.ensures.good_or_the_first_refused in
+    let l = c.in_ok-check_lets.ensures.in_place_or_the_first_refused in
     let vs = c.bytes-2.result.now in
-    let ev = c.bytes-2.ensures.are-its-records in
-    let nv : length vs / 8 ≡ count_of bs P.Bindings = omega (arith, ap length ev, f.splits.bindings_are.size-is) in
-    let hv = c.in-ok-bindings.ensures.all-read-or-the-first-refused in
+    let ev = c.bytes-2.ensures.are_its_records in
+    let nv : length vs / 8 ≡ count_of bs P.Bindings = omega (arith, ap length ev, f.splits.bindings_are.size_is) in
+    let hv = c.in_ok-bindings.ensures.all_read_or_the_first_refused in
     let ov = canon bs (λ zs i. (k : ℕ) → k < i → GoodBinding zs k) P.Bindings s.bindings vs (length vs / 8) f.splits.bindings_are ev nv hv.1 in
     let ws = c.bytes-3.result.now in
-    let ew = c.bytes-3.ensures.are-its-records in
-    let nw : length ws / 5 ≡ count_of bs P.Frames = omega (arith, ap length ew, f.splits.frames_are.size-is) in
-    let hw = c.in-ok-frames.ensures.all-read-or-the-first-refused in
+    let ew = c.bytes-3.ensures.are_its_records in
+    let nw : length ws / 5 ≡ count_of bs P.Frames = omega (arith, ap length ew, f.splits.frames_are.size_is) in
+    let hw = c.in_ok-frames.ensures.all_read_or_the_first_refused in
     let ow = canon bs (λ zs i. (k : ℕ) → k < i → GoodFrame zs k) P.Frames s.frames ws (length ws / 5) f.splits.frames_are ew nw hw.1 in
-    let lv = canon bs (λ zs i. listed c.in-ok-bindings.bindings ≡ tabulated (binding_at zs) i) P.Bindings s.bindings vs (length vs / 8) f.splits.bindings_are ev nv hv.0 in
-    let lw = canon bs (λ zs i. listed c.in-ok-frames.frames ≡ tabulated (frame_at zs) i) P.Frames s.frames ws (length ws / 5) f.splits.frames_are ew nw hw.0 in
-    let e = c.read-children.ensures.all-as-written in
+    let lv = canon bs (λ zs i. listed c.in_ok-bindings.bindings ≡ tabulated (binding_at zs) i) P.Bindings s.bindings vs (length vs / 8) f.splits.bindings_are ev nv hv.0 in
+    let lw = canon bs (λ zs i. listed c.in_ok-frames.frames ≡ tabulated (frame_at zs) i) P.Frames s.frames ws (length ws / 5) f.splits.frames_are ew nw hw.0 in
+    let e = c.read_children.ensures.all_as_written in
     let u = shape (listed t) (numbers ys) in
     let o = laid bs t ys d (numbers ys) in
-    let zs = map number_of (listed c.read-children.result) in
+    let zs = map number_of (listed c.read_children.result) in
     let m = ap length lv ∙ length-tabulated (binding_at (bytes_in bs P.Bindings)) (count_of bs P.Bindings) in (
       omega (arith, ap length d.nodes, length-tabulated (node_from (bytes_in bs P.Nodes)) (count_of bs P.Nodes), f.node_least),
       (
@@ -216,30 +216,30 @@ invariant-of-result c =
 pub returns : goal.returns
 returns c =
     let bs = c.args.bytes.now in
-    let s = c.in-ok-sheet.sheet in
-    let f = c.in-ok-sheet.ensures.framed-or-the-first-cause in
-    let t = c.in-ok-nodes.nodes in
+    let s = c.in_ok-sheet.sheet in
+    let f = c.in_ok-sheet.ensures.framed_or_the_first_cause in
+    let t = c.in_ok-nodes.nodes in
     let xs = c.bytes.result.now in
     let ys = c.bytes-children.result.now in
-    let d : Read bs t ys = nodes_read bs s f t xs ys c.count.result c.bytes.ensures.are-its-records c.bytes-children.ensures.are-its-records (c.count.ensures.is-its-count ∙ f.splits.bindings_are.count_is) c.in-ok-nodes.ensures.all-read-or-the-first-refused in
-    let g = c.in-ok-check-tree.ensures.good-or-the-first-refused in
-    let l = c.in-ok-check-lets.ensures.in-place-or-the-first-refused in
+    let d : Read bs t ys = nodes_read bs s f t xs ys c.count.result c.bytes.ensures.are_its_records c.bytes-children.ensures.are_its_records (c.count.ensures.is_its_count ∙ f.splits.bindings_are.count_is) c.in_ok-nodes.ensures.all_read_or_the_first_refused in
+    let g = c.in_ok-check_tree.ensures.good_or_the_first_refused in
+    let l = c.in_ok-check_lets.ensures.in_place_or_the_first_refused in
     let c6 = clear6 bs t ys d g l in
     let vs = c.bytes-2.result.now in
-    let ev = c.bytes-2.ensures.are-its-records in
-    let nv : length vs / 8 ≡ count_of bs P.Bindings = omega (arith, ap length ev, f.splits.bindings_are.size-is) in
-    let hv = c.in-ok-bindings.ensures.all-read-or-the-first-refused in
+    let ev = c.bytes-2.ensures.are_its_records in
+    let nv : length vs / 8 ≡ count_of bs P.Bindings = omega (arith, ap length ev, f.splits.bindings_are.size_is) in
+    let hv = c.in_ok-bindings.ensures.all_read_or_the_first_refused in
     let ov = canon bs (λ zs i. (k : ℕ) → k < i → GoodBinding zs k) P.Bindings s.bindings vs (length vs / 8) f.splits.bindings_are ev nv hv.1 in
     let ws = c.bytes-3.result.now in
-    let ew = c.bytes-3.ensures.are-its-records in
-    let nw : length ws / 5 ≡ count_of bs P.Frames = omega (arith, ap length ew, f.splits.frames_are.size-is) in
-    let hw = c.in-ok-frames.ensures.all-read-or-the-first-refused in
+    let ew = c.bytes-3.ensures.are_its_records in
+    let nw : length ws / 5 ≡ count_of bs P.Frames = omega (arith, ap length ew, f.splits.frames_are.size_is) in
+    let hw = c.in_ok-frames.ensures.all_read_or_the_first_refused in
     let ow = canon bs (λ zs i. (k : ℕ) → k < i → GoodFrame zs k) P.Frames s.frames ws (length ws / 5) f.splits.frames_are ew nw hw.1 in
-    let lv = canon bs (λ zs i. listed c.in-ok-bindings.bindings ≡ tabulated (binding_at zs) i) P.Bindings s.bindings vs (length vs / 8) f.splits.bindings_are ev nv hv.0 in
-    let lw = canon bs (λ zs i. listed c.in-ok-frames.frames ≡ tabulated (frame_at zs) i) P.Frames s.frames ws (length ws / 5) f.splits.frames_are ew nw hw.0 in
-    let e = c.read-children.ensures.all-as-written in
+    let lv = canon bs (λ zs i. listed c.in_ok-bindings.bindings ≡ tabulated (binding_at zs) i) P.Bindings s.bindings vs (length vs / 8) f.splits.bindings_are ev nv hv.0 in
+    let lw = canon bs (λ zs i. listed c.in_ok-frames.frames ≡ tabulated (frame_at zs) i) P.Frames s.frames ws (length ws / 5) f.splits.frames_are ew nw hw.0 in
+    let e = c.read_children.ensures.all_as_written in
     record {
-      accepted-or-the-first-cause = record {
+      accepted_or_the_first_cause = record {
         no_cause = all_clear bs c6 ov ow;
         written = record { nodes = d.nodes; children = e ∙ d.children; bindings = lv; frames = lw };
       };

@@ -4,7 +4,7 @@ use Rattle.sheet.proofs.table.Table.at.Goals as goal
 
 pub returns : goal.returns
 returns g c = record {
-  is-listed-there = λ d.
+  is_listed_there = λ d.
       let t = c.args.self.now in
       let n = length-take-le t.len t.records (omega arith) in
       get_or_default t.records c.args.i _ d (omega arith) ∙ sym (get_or-take t.len t.records c.args.i d (omega arith));

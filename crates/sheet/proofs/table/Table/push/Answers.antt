@@ -4,7 +4,7 @@ use Rattle.sheet.proofs.table.Table.push.Goals as goal
 
 pub returns : goal.returns
 returns g c = record {
-  at-the-end =
+  at_the_end =
       let t = c.args.self.now in
       let n = length-take-le t.len t.records (omega arith) in
       take_more_set t.records t.len c.args.«record» (omega arith);
