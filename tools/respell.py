@@ -29,7 +29,7 @@ JOINED = {
 OTHERWISE = {
     "end-of": "end_from", "part-of": "part_from", "countFits": "count_suits", "children-to": "children_to_lem",
     "frame-number": "frame_number_lem", "kind-said": "kind_said_lem", "of-child": "of_child_lem", "use-of": "use_of_lem",
-    "in-module": "in_the_module", "in-block": "in_the_block", "sheetNode": "sheet_node", "sheetChild": "sheet_child",
+    "in-module": "in_the_module", "in-block": "in_the_block", "Laid_out": "LaidOut", "Laid-out": "LaidOut", "sheetNode": "sheet_node", "sheetChild": "sheet_child",
 }
 # The same, in one file alone.
 THERE = {"crates/reach/proofs/Whole.antt": {"is_body": "is_body_lem"}, "crates/scope/proofs/Whole.antt": {"is_body": "is_body_lem"}}
@@ -100,7 +100,7 @@ def main():
 
     changed = 0
     for path, text in texts.items():
-        here = THERE.get(path, {})
+        here = THERE.get(path, {}) if "isBody" in text else {}
         out = turn(TOKEN.sub(lambda m: here.get(m[0], m[0]), text))
         if out != text:
             open(path, "w", encoding="utf-8").write(out)

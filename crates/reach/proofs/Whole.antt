@@ -18,7 +18,7 @@ use Rattle.format.specs.Ids.{number_of}
 use Rattle.reach.specs.Shape.{Shape, Below, children_of}
 use Rattle.reach.specs.Visit.{State, Visit, skip, nth, all, each, step, of_child, folded, below as values, visit_of, visits, built, first, start, self_in, selfed}
 use Rattle.reach.specs.Law.{BlocksHoldNone, IsIn, OnlyExpressions, bound, held, holds_none, Sight, root, below, Met, Seen, TreeLaw, present, binds, leaves, joined, all_binds, parameters, bind_step, leave_step, binding_of, self_of, brings, shuts}
-use Rattle.reach.specs.Tables.{is_body_lem, suits, unless, Fits, NodeOf, binding, kids, kid, kind_of, pattern_at}
+use Rattle.reach.specs.Tables.{is_body, suits, unless, Fits, NodeOf, binding, kids, kid, kind_of, pattern_at}
 use Rattle.reach.proofs.Runs.{View, Fair, Stands, Run, view_in, run_view, run_none, run_then, run_at}
 use Rattle.reach.proofs.Good.{Here, After, Good, Goods, within, here_run, quiet, Each, each_good, good_none, good_at, good_drop}
 use Rattle.reach.proofs.EachKind.{Given, by_kind, tail_at, self_run}
@@ -158,7 +158,7 @@ none_placed zero e r h = none_some r h
 none_placed (suc k) zero r h = none_some r h
 none_placed (suc k) (suc e) r h = none_placed k e r h
 
-is_body_lem : (k : NodeKind) → is_body_lem k ≡ true → k ≡ Body (self_in k)
+is_body_lem : (k : NodeKind) → is_body k ≡ true → k ≡ Body (self_in k)
 is_body_lem Leaf e = absurd (yes_no (sym e))
 is_body_lem (Use x h) e = absurd (yes_no (sym e))
 is_body_lem Sequence e = absurd (yes_no (sym e))

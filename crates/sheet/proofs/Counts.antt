@@ -9,7 +9,7 @@ use Rattle.format.proofs.Codes.{said}
 use Rattle.sheet.specs.declared.node.Node.{Node}
 use Rattle.sheet.specs.Records.{record_at, begins, kind_said, node_from}
 use Rattle.sheet.specs.Shape.{Shape, blank, node_at, total}
-use Rattle.sheet.specs.Tree.{Laid_out}
+use Rattle.sheet.specs.Tree.{LaidOut}
 
 pub begins_none : (ns : List ℕ) → begins ns 0 ≡ 0
 unfolding begins
@@ -53,9 +53,9 @@ total_part ns i h =
     omega (arith, total_whole ns (length ns) refl)
 
 -- where each node's children begin after those before it, they lie within all children
-pub laid_within : (t : Shape) (i : ℕ) → Laid_out t → i < length t.nodes → (node_at t i).first + (node_at t i).count ≤ total t.nodes
+pub laid_within : (t : Shape) (i : ℕ) → LaidOut t → i < length t.nodes → (node_at t i).first + (node_at t i).count ≤ total t.nodes
 laid_within t i l h = omega (arith, l i h, total_more t.nodes i h, total_part t.nodes (i + 1) (omega arith))
 
 -- the last node's children end where all end
-pub laid_end : (t : Shape) (i : ℕ) → Laid_out t → i + 1 ≡ length t.nodes → (node_at t i).first + (node_at t i).count ≡ total t.nodes
+pub laid_end : (t : Shape) (i : ℕ) → LaidOut t → i + 1 ≡ length t.nodes → (node_at t i).first + (node_at t i).count ≡ total t.nodes
 laid_end t i l h = omega (arith, l i (omega arith), total_more t.nodes i (omega arith), total_whole t.nodes (i + 1) h)

@@ -19,7 +19,7 @@ use Rattle.sheet.specs.Records.{record_at, Said, begins, node_from, child_from, 
 use Rattle.sheet.specs.Shape.{Shape, shape, node_at, blank, total}
 use Rattle.sheet.specs.Steps.{FirstBroken, TreeFault}
 use Rattle.sheet.specs.Tables.{listed, tabulated}
-use Rattle.sheet.specs.Tree.{AddsUp, Laid_out, GoodNode, GoodTree, LetInPlace}
+use Rattle.sheet.specs.Tree.{AddsUp, LaidOut, GoodNode, GoodTree, LetInPlace}
 use Rattle.sheet.proofs.Counts.{begins_none, begins_more, total_push}
 use Rattle.sheet.proofs.Listed.{tabulated_none, tabulated_more, length-tabulated, get_or-tabulated, take-tabulated}
 
@@ -41,7 +41,7 @@ total_begins ns (suc i) =
     let s : suc i ≡ i + 1 = omega arith in
     rw s (ap total (tabulated_more (node_from ns) i) ∙ (total_push (tabulated (node_from ns) i) (node_from ns i) ∙ omega (arith, total_begins ns i, begins_more ns i)))
 
-pub laid_tabulated : (ns : List ℕ) (n : ℕ) (cs : List ℕ) → Laid_out (shape (tabulated (node_from ns) n) cs)
+pub laid_tabulated : (ns : List ℕ) (n : ℕ) (cs : List ℕ) → LaidOut (shape (tabulated (node_from ns) n) cs)
 laid_tabulated ns n cs i h =
     let l = length-tabulated (node_from ns) n in
     ap (λ x. x.first) (get_or-tabulated (node_from ns) n i blank (omega arith)) ∙ sym (ap total (take-tabulated (node_from ns) n i (omega arith)) ∙ total_begins ns i)
@@ -125,8 +125,8 @@ module _ (bs : List ℕ) where
     same_tree : tree ≡ shape_in bs
     same_tree = ap (λ x. shape x (numbers ys)) d.nodes ∙ ap (λ x. shape (nodes_in bs) x) d.children
 
-    pub laid : (cs : List ℕ) → Laid_out (shape (listed t) cs)
-    laid cs = subst (λ x. Laid_out (shape x cs)) (sym d.nodes) (laid_tabulated (bytes_in bs P.Nodes) (count_of bs P.Nodes) cs)
+    pub laid : (cs : List ℕ) → LaidOut (shape (listed t) cs)
+    laid cs = subst (λ x. LaidOut (shape x cs)) (sym d.nodes) (laid_tabulated (bytes_in bs P.Nodes) (count_of bs P.Nodes) cs)
 
     clear4 : ClearTo (Applies bs) 4
     clear4 = clear_more (Applies bs) 3 R.Record refl d.clear (λ s k w. w.1.broken (d.said w.1.at w.1.within))

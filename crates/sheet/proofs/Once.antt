@@ -7,7 +7,7 @@ use Rattle.sheet.specs.declared.node.Node.{Node}
 use Rattle.sheet.specs.Lawful.{AllAdmitted, AllLower, BodyLast, Once, admitted_at}
 use Rattle.sheet.specs.Shape.{Shape, blank, node_at, kind_at, child_at, sort_at, times, total}
 use Rattle.sheet.specs.Steps.{Falls}
-use Rattle.sheet.specs.Tree.{AddsUp, Laid_out, GoodChild, GoodTree}
+use Rattle.sheet.specs.Tree.{AddsUp, LaidOut, GoodChild, GoodTree}
 use Rattle.sheet.proofs.Times.{times_same, times_other}
 
 -- child q is the child at place j of node i
@@ -39,7 +39,7 @@ times_most c cs h (suc k) l =
     (λ ne. omega (arith, times_other c k cs (omega arith) ne, times_most c cs h k (omega arith)))
     (cases_eq (get_or cs k 0) c))
 
-module _ (t : Shape) (laid : Laid_out t) (good : GoodTree t) where
+module _ (t : Shape) (laid : LaidOut t) (good : GoodTree t) where
   -- the rules at the child that is entry q
   good_entry : (q : ℕ) → q < length t.children → (i : ℕ) × (j : ℕ) × (i < length t.nodes) × (q ≡ (node_at t i).first + j) × GoodChild t i j
   good_entry q h =

@@ -11,8 +11,8 @@ abbrev pub AddsUp : Shape → Type 0
 AddsUp t = total t.nodes ≡ length t.children
 
 -- each node's children begin where those of the nodes before it end
-abbrev pub Laid_out : Shape → Type 0
-Laid_out t = (i : ℕ) → i < length t.nodes → (node_at t i).first ≡ total (take i t.nodes)
+abbrev pub LaidOut : Shape → Type 0
+LaidOut t = (i : ℕ) → i < length t.nodes → (node_at t i).first ≡ total (take i t.nodes)
 
 -- the child at place j of node i is such as the place admits, has a lower number than its parent, and was no child before
 pub record GoodChild (t : Shape) (i j : ℕ) : Type 0 where

@@ -2,7 +2,7 @@
 ghost use Rattle.std.specs.Prelude.{ℕ, ◌≤◌, length};
 ghost use Rattle.sheet.specs.Lawful.{AllAdmitted, AllBindingsNamed, AllCounted, AllFramesNumbered, AllLower, AllNamed, BodyLast, LetsInPlace, Once, shape_of};
 ghost use Rattle.sheet.specs.Tables.{listed};
-ghost use Rattle.sheet.specs.Tree.{AddsUp, Laid_out};
+ghost use Rattle.sheet.specs.Tree.{AddsUp, LaidOut};
 
 use crate::node::{Binding, Frame, Node};
 use crate::table::Table;
@@ -16,7 +16,7 @@ pub struct Body {
     bindings: Table<Binding, 256>,
     frames: Table<Frame, 16>,
     ghost some: { 1 ≤ length (listed nodes) },
-    ghost laid_out: { Laid_out (shape_of nodes children) },
+    ghost laid_out: { LaidOut (shape_of nodes children) },
     ghost adds_up: { AddsUp (shape_of nodes children) },
     ghost named: { AllNamed (length (listed bindings)) (shape_of nodes children) },
     ghost counted: { AllCounted (shape_of nodes children) },

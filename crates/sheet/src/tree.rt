@@ -4,7 +4,7 @@ ghost use Rattle.sheet.specs.Records.{numbers};
 ghost use Rattle.sheet.specs.Shape.{node_at, shape, sort_at, total};
 ghost use Rattle.sheet.specs.Steps.{Claims, FaultAt, FirstBroken, TreeFault};
 ghost use Rattle.sheet.specs.Tables.{listed};
-ghost use Rattle.sheet.specs.Tree.{GoodChild, GoodNode, GoodTree, Laid_out};
+ghost use Rattle.sheet.specs.Tree.{GoodChild, GoodNode, GoodTree, LaidOut};
 
 use crate::children::child_number;
 use crate::claims::first_claims;
@@ -109,7 +109,7 @@ fn check_node(
 // All child counts together: where the last node's children end.
 fn total_count(nodes: &Table<Node, 512>) -> usize
     requires some { 1 ≤ length (listed nodes.now) }
-    requires laid_out { Laid_out (shape (listed nodes.now) []) }
+    requires laid_out { LaidOut (shape (listed nodes.now) []) }
     ensures is_their_sum { result ≡ total (listed nodes.now) }
 {
     let last = nodes.at(nodes.len() - 1);
@@ -119,7 +119,7 @@ fn total_count(nodes: &Table<Node, 512>) -> usize
 // The tree rules, or the first that is broken.
 pub(crate) fn check_tree(nodes: &Table<Node, 512>, children: &[u8]) -> Result<(), Fault>
     requires some { 1 ≤ length (listed nodes.now) }
-    requires laid_out { Laid_out (shape (listed nodes.now) []) }
+    requires laid_out { LaidOut (shape (listed nodes.now) []) }
     requires few { length children.now / 2 ≤ 1024 }
     ensures good_or_the_first_refused { MatchResult result
         (λ _. GoodTree (shape (listed nodes.now) (numbers children.now)))

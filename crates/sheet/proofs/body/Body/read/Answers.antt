@@ -9,7 +9,7 @@ use Rattle.sheet.specs.Records.{GoodBinding, GoodFrame, binding_at, child_from, 
 use Rattle.sheet.specs.Shape.{Shape, shape}
 use Rattle.sheet.specs.Steps.{FirstBroken}
 use Rattle.sheet.specs.Tables.{listed, tabulated}
-use Rattle.sheet.specs.Tree.{AddsUp, Laid_out}
+use Rattle.sheet.specs.Tree.{AddsUp, LaidOut}
 use Rattle.sheet.proofs.Bodies.{all_named, all_counted, bindings_named, frames_numbered}
 use Rattle.sheet.proofs.Counts.{laid_within}
 use Rattle.sheet.proofs.Listed.{length-tabulated, listed_few}
@@ -178,40 +178,20 @@ invariant_of-result c =
     let u = shape (listed t) (numbers ys) in
     let o = laid bs t ys d (numbers ys) in
     let zs = map number_of (listed c.read_children.result) in
-    let m = ap length lv ∙ length-tabulated (binding_at (bytes_in bs P.Bindings)) (count_of bs P.Bindings) in (
-      omega (arith, ap length d.nodes, length-tabulated (node_from (bytes_in bs P.Nodes)) (count_of bs P.Nodes), f.node_least),
-      (
-        laid bs t ys d zs,
-        (
-          subst (λ z. AddsUp (shape (listed t) z)) (sym e) g.adds_up,
-          (
-            all_named bs (listed t) d.nodes d.said zs _ m,
-            (
-              all_counted bs (listed t) d.nodes d.said zs,
-              (
-                subst (λ z. AllAdmitted (shape (listed t) z)) (sym e) (all_admitted u o g),
-                (
-                  subst (λ z. AllLower (shape (listed t) z)) (sym e) (all_lower u o g),
-                  (
-                    subst (λ z. Once (shape (listed t) z)) (sym e) (once u o g),
-                    (
-                      subst (λ z. BodyLast (shape (listed t) z)) (sym e) (body_last u o g),
-                      (
-                        ∣ subst (λ z. LetsInPlace (shape (listed t) z)) (sym e) l ∣₁,
-                        (
-                          bindings_named bs _ lv ov,
-                          (frames_numbered bs _ lw ow, tt),
-                        ),
-                      ),
-                    ),
-                  ),
-                ),
-              ),
-            ),
-          ),
-        ),
-      ),
-    )
+    let m = ap length lv ∙ length-tabulated (binding_at (bytes_in bs P.Bindings)) (count_of bs P.Bindings) in record {
+      some = omega (arith, ap length d.nodes, length-tabulated (node_from (bytes_in bs P.Nodes)) (count_of bs P.Nodes), f.node_least);
+      laid_out = laid bs t ys d zs;
+      adds_up = subst (λ z. AddsUp (shape (listed t) z)) (sym e) g.adds_up;
+      named = all_named bs (listed t) d.nodes d.said zs _ m;
+      counted = all_counted bs (listed t) d.nodes d.said zs;
+      admitted = subst (λ z. AllAdmitted (shape (listed t) z)) (sym e) (all_admitted u o g);
+      lower = subst (λ z. AllLower (shape (listed t) z)) (sym e) (all_lower u o g);
+      once = subst (λ z. Once (shape (listed t) z)) (sym e) (once u o g);
+      body_last = subst (λ z. BodyLast (shape (listed t) z)) (sym e) (body_last u o g);
+      lets = ∣ subst (λ z. LetsInPlace (shape (listed t) z)) (sym e) l ∣₁;
+      bindings_named = bindings_named bs _ lv ov;
+      frames_numbered = frames_numbered bs _ lw ow;
+    }
 
 pub returns : goal.returns
 returns c =
