@@ -17,10 +17,10 @@ loop-i-preserved c =
     let vs = bindings_of c.args.body.now in
     let inv = c.loop-i.invariant in
     let w : i < length rs = c.name.ensures.within in
-    let v = c.binding-of.result in
+    let v = c.binding_of.result in
     let e = get_or rs i no_entry in
-    let is = c.name.ensures.that-one in
-    let own = c.binding-of.ensures.its_own ∙ ap (name_of vs) c.binding-at.ensures.its_own in (
+    let is = c.name.ensures.that_one in
+    let own = c.binding_of.ensures.its_own ∙ ap (name_of vs) c.binding_at.ensures.its_own in (
       c.name.ensures.as_many ∙ inv.0,
       ap (map bare_entry) is ∙ (unseen bare_entry rs i (renamed v e) no_entry refl ∙ inv.1),
       subst (λ ts. (k : ℕ) → k < i + 1 → NamedBy vs (get_or ts k no_entry)) (sym is)
@@ -37,8 +37,8 @@ returns c =
     record {
       as_many = inv.0;
       same_entries = ap (λ n. map bare_entry (take n t.records)) inv.0 ∙ (sym (take-map bare_entry o.len t.records) ∙ (ap (take o.len) inv.1 ∙ take-map bare_entry o.len o.records));
-      same-homes = λ q. sym (ap (λ e. e.scope.0) (get_or_map_any bare_entry t.records q no_entry)) ∙ (ap (λ es. (get_or es q (bare_entry no_entry)).scope.0) inv.1 ∙ ap (λ e. e.scope.0) (get_or_map_any bare_entry o.records q no_entry));
-      each-named = λ i d h.
+      same_homes = λ q. sym (ap (λ e. e.scope.0) (get_or_map_any bare_entry t.records q no_entry)) ∙ (ap (λ es. (get_or es q (bare_entry no_entry)).scope.0) inv.1 ∙ ap (λ e. e.scope.0) (get_or_map_any bare_entry o.records q no_entry));
+      each_named = λ i d h.
           let l = length-take t.len t.records in
           let lt : i < t.len = omega arith in
           subst (NamedBy (bindings_of c.args.body.now))

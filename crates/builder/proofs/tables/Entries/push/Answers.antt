@@ -6,4 +6,4 @@ use Rattle.builder.proofs.tables.Entries.push.Goals as goal
 pub returns : goal.returns
 returns c =
     let t = c.args.self.now in
-    record { one_more = refl; written = refl; within = search rules; at-the-end = ap (map bare_entry) (take_more_set t.records t.len c.args.entry (search rules)) ∙ map_push bare_entry (take t.len t.records) c.args.entry }
+    record { one_more = refl; written = refl; within = search rules; at_the_end = ap (map bare_entry) (take_more_set t.records t.len c.args.entry (search rules)) ∙ map_push bare_entry (take t.len t.records) c.args.entry }

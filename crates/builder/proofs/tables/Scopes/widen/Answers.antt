@@ -4,12 +4,17 @@ use Rattle.reach.specs.Blank.{bare_scope, blank_scope}
 use Rattle.reach.proofs.Slopes.{unseen, widened, widened_root}
 use Rattle.builder.proofs.tables.Scopes.widen.Goals as goal
 
-pub invariant-of-self : goal.invariant-of-self
-invariant-of-self c =
+pub invariant_of-self : goal.invariant_of-self
+invariant_of-self c =
     let t = c.args.self.now in
     let k = c.args.s.0 - 1 in
     let l : k < length t.records = search rules in
-    (search rules, (search rules, (widened t.records t.len k _ l refl t.sloping, (widened_root t.records t.len k _ l refl t.rooted, tt))))
+    record {
+      whole = search rules;
+      few = search rules;
+      sloping = widened t.records t.len k _ l refl t.sloping;
+      rooted = widened_root t.records t.len k _ l refl t.rooted;
+    }
 
 pub returns : goal.returns
 returns c =

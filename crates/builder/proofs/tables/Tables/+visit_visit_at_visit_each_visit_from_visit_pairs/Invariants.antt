@@ -7,39 +7,39 @@ use Rattle.builder.proofs.tables.Tables.+visit_visit_at_visit_each_visit_from_vi
 abbrev pub decreases-visit : goal.decreases-visit
 decreases-visit l = 3 * l.n.raw
 
-abbrev pub decreases-visit-at : goal.decreases-visit-at
-decreases-visit-at l = 3 * l.n.raw - 2
+abbrev pub decreases-visit_at : goal.decreases-visit_at
+decreases-visit_at l = 3 * l.n.raw - 2
 
-abbrev pub decreases-visit-from : goal.decreases-visit-from
-decreases-visit-from l = 3 * l.n.raw - 1
+abbrev pub decreases-visit_from : goal.decreases-visit_from
+decreases-visit_from l = 3 * l.n.raw - 1
 
 -- what is left to visit gives what the whole gives, and has room
-abbrev pub invariant-visit-from-loop-i : goal.invariant-visit-from-loop-i
-invariant-visit-from-loop-i l =
-    (all (drop l.from (visits (shape_of l.body) l.n.raw)) l.initial.now-at (told l.initial.self) ≡ all (drop l.i (visits (shape_of l.body) l.n.raw)) l.now-at (told l.self))
+abbrev pub invariant-visit_from-loop-i : goal.invariant-visit_from-loop-i
+invariant-visit_from-loop-i l =
+    (all (drop l.from (visits (shape_of l.body) l.n.raw)) l.initial.now_at (told l.initial.self) ≡ all (drop l.i (visits (shape_of l.body) l.n.raw)) l.now_at (told l.self))
     × (l.self.scopes.len + 2 * total (drop l.i (sizes (shape_of l.body) l.n.raw)) ≤ l.initial.self.scopes.len + 2 * total (drop l.from (sizes (shape_of l.body) l.n.raw)))
     × (l.self.entries.len + total (drop l.i (sizes (shape_of l.body) l.n.raw)) ≤ l.initial.self.entries.len + total (drop l.from (sizes (shape_of l.body) l.n.raw)))
     × (l.initial.self.scopes.len ≤ l.self.scopes.len)
-    × Inside l.self l.now-at
+    × Inside l.self l.now_at
 
-abbrev pub decreases-visit-pairs : goal.decreases-visit-pairs
-decreases-visit-pairs l = 3 * l.n.raw - 1
+abbrev pub decreases-visit_pairs : goal.decreases-visit_pairs
+decreases-visit_pairs l = 3 * l.n.raw - 1
 
-abbrev pub decreases-visit-pairs-loop-i : goal.decreases-visit-pairs-loop-i
-decreases-visit-pairs-loop-i l = l.node.count - l.i
+abbrev pub decreases-visit_pairs-loop-i : goal.decreases-visit_pairs-loop-i
+decreases-visit_pairs-loop-i l = l.node.count - l.i
 
-abbrev pub invariant-visit-pairs-loop-i : goal.invariant-visit-pairs-loop-i
-invariant-visit-pairs-loop-i l =
+abbrev pub invariant-visit_pairs-loop-i : goal.invariant-visit_pairs-loop-i
+invariant-visit_pairs-loop-i l =
     (each (others (drop l.from (visits (shape_of l.body) l.n.raw))) l.at (told l.initial.self) ≡ each (others (drop l.i (visits (shape_of l.body) l.n.raw))) l.at (told l.self))
     × (l.self.scopes.len + 2 * total (others (drop l.i (sizes (shape_of l.body) l.n.raw))) ≤ l.initial.self.scopes.len + 2 * total (others (drop l.from (sizes (shape_of l.body) l.n.raw))))
     × (l.self.entries.len + total (others (drop l.i (sizes (shape_of l.body) l.n.raw))) ≤ l.initial.self.entries.len + total (others (drop l.from (sizes (shape_of l.body) l.n.raw))))
     × (l.initial.self.scopes.len ≤ l.self.scopes.len)
 
-abbrev pub decreases-visit-each : goal.decreases-visit-each
-decreases-visit-each l = 3 * l.n.raw - 1
+abbrev pub decreases-visit_each : goal.decreases-visit_each
+decreases-visit_each l = 3 * l.n.raw - 1
 
-abbrev pub invariant-visit-each-loop-i : goal.invariant-visit-each-loop-i
-invariant-visit-each-loop-i l =
+abbrev pub invariant-visit_each-loop-i : goal.invariant-visit_each-loop-i
+invariant-visit_each-loop-i l =
     (each (drop l.from (visits (shape_of l.body) l.n.raw)) l.at (told l.initial.self) ≡ each (drop l.i (visits (shape_of l.body) l.n.raw)) l.at (told l.self))
     × (l.self.scopes.len + 2 * total (drop l.i (sizes (shape_of l.body) l.n.raw)) ≤ l.initial.self.scopes.len + 2 * total (drop l.from (sizes (shape_of l.body) l.n.raw)))
     × (l.self.entries.len + total (drop l.i (sizes (shape_of l.body) l.n.raw)) ≤ l.initial.self.entries.len + total (drop l.from (sizes (shape_of l.body) l.n.raw)))

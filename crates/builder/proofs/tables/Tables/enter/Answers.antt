@@ -7,8 +7,8 @@ use Rattle.reach.specs.Visit.{added}
 use Rattle.reach.proofs.Ranges.{added_homed, added_real, added_after, added_before, added_started, added_ended}
 use Rattle.builder.proofs.tables.Tables.enter.Goals as goal
 
-pub invariant-of-self : goal.invariant-of-self
-invariant-of-self c =
+pub invariant_of-self : goal.invariant_of-self
+invariant_of-self c =
     let t = c.args.self.now in
     let rs = t.scopes.records in
     let es = t.entries.records in
@@ -28,22 +28,14 @@ invariant-of-self c =
     let move : (Q : List ScopeData → List ScopeEntry → ℕ → ℕ → Type 0) → Q rs2 es2 m (n + 1) → P Q =
     λ Q h. subst (λ xs. Q xs c.push.new.self.records c.widen.new.self.len c.push.new.self.len) (sym ws)
     (subst (λ ys. Q rs2 ys c.widen.new.self.len c.push.new.self.len) (sym we)
-    (subst (λ i. Q rs2 es2 i c.push.new.self.len) (sym os) (subst (λ j. Q rs2 es2 m j) (sym oe) h))) in (
-      move (λ xs ys i j. Homed ys j i) (added_homed rs es m n s e le ls refl c.requires.there t.homed),
-      (
-        move (λ xs ys i j. Real ys j) (added_real rs es m n s e le ls refl c.requires.there t.real),
-        (
-          move (λ xs ys i j. StartsBefore xs ys j) (added_after rs es m n s e le ls refl c.requires.there t.started t.after),
-          (
-            move (λ xs ys i j. EndsAfter xs ys j) (added_before rs es m n s e le ls refl c.requires.there t.before),
-            (
-              move (λ xs ys i j. Started xs i j) (added_started rs es m n s e le ls refl c.requires.there t.started),
-              (move (λ xs ys i j. Ended xs i j) (added_ended rs es m n s e le ls refl c.requires.there t.ended), tt),
-            ),
-          ),
-        ),
-      ),
-    )
+    (subst (λ i. Q rs2 es2 i c.push.new.self.len) (sym os) (subst (λ j. Q rs2 es2 m j) (sym oe) h))) in record {
+      homed = move (λ xs ys i j. Homed ys j i) (added_homed rs es m n s e le ls refl c.requires.there t.homed);
+      real = move (λ xs ys i j. Real ys j) (added_real rs es m n s e le ls refl c.requires.there t.real);
+      after = move (λ xs ys i j. StartsBefore xs ys j) (added_after rs es m n s e le ls refl c.requires.there t.started t.after);
+      before = move (λ xs ys i j. EndsAfter xs ys j) (added_before rs es m n s e le ls refl c.requires.there t.before);
+      started = move (λ xs ys i j. Started xs i j) (added_started rs es m n s e le ls refl c.requires.there t.started);
+      ended = move (λ xs ys i j. Ended xs i j) (added_ended rs es m n s e le ls refl c.requires.there t.ended);
+    }
 
 pub returns : goal.returns
 unfolding added

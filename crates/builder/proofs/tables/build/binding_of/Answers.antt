@@ -12,10 +12,10 @@ returns-in-Some c =
     let n = c.args.b.0 in
     record {
       its_own = elim (cases_eq n 0) [
-        | inl z ↦ let o : None ≡ Some c.in-Some.binding = sym (c.binding.ensures.none-for-0 z) ∙ c.in-Some.is in let q : ◌≡◌ {A = ℕ} 0 1 = cc in absurd (omega arith)
+        | inl z ↦ let o : None ≡ Some c.in-Some.binding = sym (c.binding.ensures.none_for_0 z) ∙ c.in-Some.is in let q : ◌≡◌ {A = ℕ} 0 1 = cc in absurd (omega arith)
         | inr z ↦
             let p : 0 < n = omega (arith, z) in
-            let e = (found_some vs (n - 1) c.in-Some.binding no_binding (sym (c.binding.ensures.is-that-binding p) ∙ c.in-Some.is)).1 in
+            let e = (found_some vs (n - 1) c.in-Some.binding no_binding (sym (c.binding.ensures.is_that_binding p) ∙ c.in-Some.is)).1 in
             e ∙ sym (cond-false (eqb n 0) no_binding (get_or vs (n - 1) no_binding) (ne_eqb n 0 z))
       ];
     }
@@ -29,7 +29,7 @@ returns-in-None c =
         | inl z ↦ sym (cond-true (eqb n 0) no_binding (get_or vs (n - 1) no_binding) (eq-eqb n 0 z))
         | inr z ↦
             let p : 0 < n = omega (arith, z) in
-            let e = get_or_past vs (n - 1) no_binding (found_none vs (n - 1) (sym (c.binding.ensures.is-that-binding p) ∙ c.in-None.is)) in
+            let e = get_or_past vs (n - 1) no_binding (found_none vs (n - 1) (sym (c.binding.ensures.is_that_binding p) ∙ c.in-None.is)) in
             sym (cond-false (eqb n 0) no_binding (get_or vs (n - 1) no_binding) (ne_eqb n 0 z) ∙ e)
       ];
     }

@@ -15,7 +15,7 @@ returns-in-Some c =
     let b = c.args.body.now in
     let n = c.args.n in
     let ws = sizes (shape_of b) n.raw in
-    let e = (found_some (listed b.nodes) (n.raw - 1) c.in-Some.node blank (sym c.node.ensures.is-that-node ∙ c.in-Some.is)).1 in
+    let e = (found_some (listed b.nodes) (n.raw - 1) c.in-Some.node blank (sym c.node.ensures.is_that_node ∙ c.in-Some.is)).1 in
     record {
       it = e;
       means = by_kind (shape_of b) (falls_law b) n e refl;
@@ -30,7 +30,7 @@ returns-in-None c =
     let b = c.args.body.now in
     let n = c.args.n in
     let ws = sizes (shape_of b) n.raw in
-    let e = sym (get_or_past (listed b.nodes) (n.raw - 1) blank (found_none (listed b.nodes) (n.raw - 1) (sym c.node.ensures.is-that-node ∙ c.in-None.is))) in
+    let e = sym (get_or_past (listed b.nodes) (n.raw - 1) blank (found_none (listed b.nodes) (n.raw - 1) (sym c.node.ensures.is_that_node ∙ c.in-None.is))) in
     record {
       it = e;
       means = by_kind (shape_of b) (falls_law b) n e refl;
