@@ -1,14 +1,15 @@
 -- The entries of one scope among all entries.
-use Rattle.std.proofs.Common.{◌≡◌, ℕ, zero, suc, ◌+◌, ◌-◌, ◌<◌, ◌≤◌, Bool, true, false, cond, eqb, List, [], ◌∷◌, length, get_or, take, drop, Some, None, Option, sym, refl, ap, ◌∙◌, subst, add-one, arith, drop-cons}
+use Rattle.std.proofs.Common.{◌≡◌, ℕ, zero, suc, ◌+◌, ◌-◌, ◌<◌, ◌≤◌, Bool, true, false, cond, eqb, ◌==◌, List, [], ◌∷◌, length, get_or, take, drop, Some, None, Option, sym, refl, ap, ◌∙◌, subst, add-one, arith, drop-cons}
 use Rattle.std.proofs.lemmas.List.{get_or-drop, get_or-take, length-drop, length-take-le}
 use Rattle.std.proofs.lemmas.Bool.{cond-true, cond-false, eq-eqb, ne_eqb}
+use Rattle.format.specs.declared.ids.Name.{Name}
 use Rattle.format.specs.declared.ids.ScopeId.{ScopeId}
 use Rattle.sheet.specs.Tables.{found}
 use Rattle.reach.specs.declared.data.ScopeEntry.{ScopeEntry}
 use Rattle.scope.specs.declared.tables.ExprScopes.{ExprScopes}
 use Rattle.reach.specs.Blank.{blank_scope}
 use Rattle.reach.specs.Named.{no_entry}
-use Rattle.scope.specs.Queries.{IsScope, all_entries, data_of, entries_of, first_that, outward, parent_from}
+use Rattle.scope.specs.Queries.{IsScope, all_entries, data_of, entries_of, first_named, first_that, named, outward, parent_from}
 use Rattle.reach.specs.Ranges.{home_in, home_of}
 
 pub own_none : (h : ℕ) → entries_of h [] ≡ []
@@ -65,6 +66,12 @@ that_here p e es h = cond-true _ _ _ h
 pub that_other : (p : ScopeEntry → Bool) (e : ScopeEntry) (es : List ScopeEntry) → p e ≡ false → first_that p (e ∷ es) ≡ first_that p es
 unfolding first_that
 that_other p e es h = cond-false _ _ _ h
+
+-- a name alone is such a test
+pub named_first : (n : Name) (es : List ScopeEntry) → first_that (named n) es ≡ first_named n.0 es
+unfolding first_that first_named
+named_first n [] = refl
+named_first n (e ∷ es) = ap (cond (e.name.0 == n.0) (Some e)) (named_first n es)
 
 -- the entries of a scope lie within its range
 module _ (t : ExprScopes) (s : ScopeId) (there : IsScope t s) where

@@ -19,24 +19,24 @@ returns c =
     let body = c.args.body.now in
     let b = shape_of body in
     let m = length (listed body.nodes) in
-    let t = c.of-body-tables.result in
-    let is = c.of-body-tables.ensures.is-the-tree-of-the-visit in
+    let t = c.of_body-tables.result in
+    let is = c.of_body-tables.ensures.is_the_tree_of_the_visit in
     let tree : TreeLaw b m = tree_law body in
     let reach : ReachIn b m (told t) = subst (λ q. ReachIn b m q) is (law b m tree) in
     record {
-      is-the-tree-of-the-visit = is;
-      fits-its-tables = (
+      is_the_tree_of_the_visit = is;
+      fits_its_tables = (
         omega (arith, length-map (take t.scopes.len t.scopes.records) bare_scope, length-take t.scopes.len t.scopes.records, t.scopes.few),
         omega (arith, length-map (take t.entries.len t.entries.records) bare_entry, length-take t.entries.len t.entries.records, t.entries.few),
       );
-      records-every-expression = subst (λ q. AllRecorded b m q) is (recorded b m tree);
-      records-nothing-else = subst (λ q. OnlyExpressions b q) is (only_expressions b m tree);
-      is-a-tree = tree_of_scopes t.scopes.records t.scopes.len t.scopes.sloping t.scopes.rooted (told t) refl (subst (λ q. get_or q.scopes 0 no_scope ≡ no_scope) is (root_first b m tree));
-      gives-blocks-no-entry = subst BlocksHoldNone is (blocks_hold_none b m tree);
-      sees-just-what-reaches = in_words b m (told t) tree reach;
-      sees-no-name-beyond-what-brings-it = stays_below;
-      meets-one-list-from-each-scope = met_once;
-      holds-just-what-reaches = by_bindings b m (told t) reach;
-      names-each-entry = c.of-body-tables.ensures.names-each-entry;
-      is-defined-as-worked-out = examples_hold;
+      records_every_expression = subst (λ q. AllRecorded b m q) is (recorded b m tree);
+      records_nothing_else = subst (λ q. OnlyExpressions b q) is (only_expressions b m tree);
+      is_a_tree = tree_of_scopes t.scopes.records t.scopes.len t.scopes.sloping t.scopes.rooted (told t) refl (subst (λ q. get_or q.scopes 0 no_scope ≡ no_scope) is (root_first b m tree));
+      gives_blocks_no_entry = subst BlocksHoldNone is (blocks_hold_none b m tree);
+      sees_just_what_reaches = in_words b m (told t) tree reach;
+      sees_no_name_beyond_what_brings_it = stays_below;
+      meets_one_list_from_each_scope = met_once;
+      holds_just_what_reaches = by_bindings b m (told t) reach;
+      names_each_entry = c.of_body-tables.ensures.names_each_entry;
+      is_defined_as_worked_out = examples_hold;
     }

@@ -7,9 +7,9 @@ pub loop-i-init : goal.loop-i-init
 loop-i-init c = sym (outward_none c.args.self.now (Some c.args.s))
 
 pub loop-i-preserved : goal.loop-i-preserved
-loop-i-preserved c = c.parent-from-at.ensures.one-step-outward ∙ (ap (parent_from c.args.self.now) c.loop-i.invariant ∙ sym (outward_more c.args.self.now (Some c.args.s) c.loop-i.i))
+loop-i-preserved c = c.parent_from-at.ensures.one_step_outward ∙ (ap (parent_from c.args.self.now) c.loop-i.invariant ∙ sym (outward_more c.args.self.now (Some c.args.s) c.loop-i.i))
 
 pub returns : goal.returns
 returns c =
-    let d = c.in-ok-scope.ensures.is-its-record-or-refused in
-    record { is-that-far-outward-or-refused = (d.0, c.loop-i.invariant ∙ ap (outward c.args.self.now (Some c.args.s)) (omega (arith, c.loop-i-test.false))) }
+    let d = c.in_ok-scope.ensures.is_its_record_or_refused in
+    record { is_that_far_outward_or_refused = (d.0, c.loop-i.invariant ∙ ap (outward c.args.self.now (Some c.args.s)) (omega (arith, c.loop-i-test.false))) }
