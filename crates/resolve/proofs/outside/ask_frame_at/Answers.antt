@@ -6,9 +6,9 @@ use Rattle.resolve.proofs.outside.ask_frame_at.Goals as goal
 
 pub returns-in-Some : goal.returns-in-Some
 returns-in-Some g c = record {
-  as-that-frame = λ h.
-      c.ask-frame.ensures.by-its-kind ∙ ap (frame_answer (g.I.ItemHost.tables c.args.items.now) c.args.name) (found_some (frames_of c.args.body.now) c.args.place c.in-Some.frame no_frame (sym c.in-Some.ensures.is-that-frame)).1;
+  as_that_frame = λ h.
+      c.ask_frame.ensures.by_its_kind ∙ ap (frame_answer (g.I.ItemHost.tables c.args.items.now) c.args.name) (found_some (frames_of c.args.body.now) c.args.place c.in-Some.frame no_frame (sym c.in-Some.ensures.is_that_frame)).1;
 }
 
 pub returns-in-None : goal.returns-in-None
-returns-in-None g c = record { as-that-frame = λ h. absurd (omega (arith, found_none (frames_of c.args.body.now) c.args.place (sym c.in-None.ensures.is-that-frame))) }
+returns-in-None g c = record { as_that_frame = λ h. absurd (omega (arith, found_none (frames_of c.args.body.now) c.args.place (sym c.in-None.ensures.is_that_frame))) }

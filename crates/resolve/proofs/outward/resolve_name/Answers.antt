@@ -14,14 +14,14 @@ returns g c =
     let X = g.E.ExpansionHost.expansions c.args.expansions.now in
     let t = c.args.tree.now in
     let q = c.args.sought in
-    let r = c.resolve-name-supposing.result in
-    let is = subst (λ (T : Surroundings). ForPlace t q.from r (λ m. m ≡ resolved W X T q)) (supposing_none (surroundings_of c.args.body.now t)) c.resolve-name-supposing.ensures.is-as-defined-on-the-rewritten-tables-or-refused in
+    let r = c.resolve_name_supposing.result in
+    let is = subst (λ (T : Surroundings). ForPlace t q.from r (λ m. m ≡ resolved W X T q)) (supposing_none (surroundings_of c.args.body.now t)) c.resolve_name_supposing.ensures.is_as_defined_on_the_rewritten_tables_or_refused in
     record {
-      is-as-defined-or-refused = is;
-      is-the-first-hit-outward = first_hit W X c.args.body.now t q r is;
-      has-no-other-meaning = means_one;
-      goes-over-tables-with-parents-below = told_below t;
-      finds-no-local-declared-after-the-macro-but-of-its-own-hygiene = mixed_site;
-      looks-where-the-macro-is-defined = definition_site;
-      is-defined-as-worked-out = examples_hold;
+      is_as_defined_or_refused = is;
+      is_the_first_hit_outward = first_hit W X c.args.body.now t q r is;
+      has_no_other_meaning = means_one;
+      goes_over_tables_with_parents_below = told_below t;
+      finds_no_local_declared_after_the_macro_but_of_its_own_hygiene = mixed_site;
+      looks_where_the_macro_is_defined = definition_site;
+      is_defined_as_worked_out = examples_hold;
     }

@@ -10,7 +10,7 @@ same_line {w = w} {rest = rest} same word = let P : List ℕ → Type 0 = λ x. 
 pub returns : goal.returns
 returns c =
     record {
-      is-what-the-line-says =
+      is_what_the_line_says =
           record {
             past_sheet = _;
             past_nodes = _;
@@ -18,12 +18,12 @@ returns c =
             past_frames = _;
             past_scopes = _;
             past_entries = _;
-            sheet_is = same_line c.new-words.ensures.has-the-whole-line c.in-ok-word.ensures.passes-that-word;
-            nodes_are = c.in-ok-nodes.ensures.reads-word-and-number;
-            bindings_are = c.in-ok-bindings.ensures.reads-word-and-number;
-            frames_are = c.in-ok-frames.ensures.reads-word-and-number;
-            scopes_are = c.in-ok-scopes.ensures.reads-word-and-number;
-            entries_are = c.in-ok-entries.ensures.reads-word-and-number;
-            ends = c.in-ok-end.ensures.no-word-is-left;
+            sheet_is = same_line c.new-words.ensures.has_the_whole_line c.in_ok-word.ensures.passes_that_word;
+            nodes_are = c.in_ok-nodes.ensures.reads_word_and_number;
+            bindings_are = c.in_ok-bindings.ensures.reads_word_and_number;
+            frames_are = c.in_ok-frames.ensures.reads_word_and_number;
+            scopes_are = c.in_ok-scopes.ensures.reads_word_and_number;
+            entries_are = c.in_ok-entries.ensures.reads_word_and_number;
+            ends = c.in_ok-end.ensures.no_word_is_left;
           };
     }

@@ -10,18 +10,18 @@ same_line {w = w} {n = n} {rest = rest} same told = let P : List ℕ → Type 0 
 pub returns : goal.returns
 returns c =
     record {
-      is-what-the-line-says =
+      is_what_the_line_says =
           record {
             past_scope = _;
             past_binding = _;
             past_name = _;
             past_hygiene = _;
             past_owner = _;
-            scope_is = same_line c.new-words.ensures.has-the-whole-line c.in-ok-scope.ensures.reads-word-and-number;
-            binding_is = c.in-ok-binding.ensures.reads-word-and-number;
-            name_is = c.in-ok-name.ensures.reads-word-and-number;
-            hygiene_is = c.in-ok-hygiene.ensures.reads-word-and-number;
-            owner_is = c.in-ok-owner.ensures.is-what-the-word-says;
-            ends = c.in-ok-end.ensures.no-word-is-left;
+            scope_is = same_line c.new-words.ensures.has_the_whole_line c.in_ok-scope.ensures.reads_word_and_number;
+            binding_is = c.in_ok-binding.ensures.reads_word_and_number;
+            name_is = c.in_ok-name.ensures.reads_word_and_number;
+            hygiene_is = c.in_ok-hygiene.ensures.reads_word_and_number;
+            owner_is = c.in_ok-owner.ensures.is_what_the_word_says;
+            ends = c.in_ok-end.ensures.no_word_is_left;
           };
     }

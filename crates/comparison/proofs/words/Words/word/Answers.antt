@@ -10,7 +10,7 @@ pub returns-then-eq : goal.returns-then-eq
 returns-then-eq c =
     let step = c.in-Some.ensures.steps in
     record {
-      passes-that-word =
+      passes_that_word =
           same_word (c.eq.ensures.0 c.if-eq.true)
           (record { gap = step.0; cut = step.1; some = step.2; blank = step.3; solid = step.4 });
     }
