@@ -1,5 +1,6 @@
 -- The next word stands in the text as `next` says, and is the one that it was compared with.
-use Rattle.std.proofs.Common.{◌≡◌, ℕ, List, subst}
+use Rattle.std.proofs.Common.{◌≡◌, ℕ, List, sym, ◌∙◌, subst}
+use Rattle.std.proofs.lemmas.Slice.Eq.{bytes_eq-Decides}
 use Rattle.comparison.specs.Line.{Word}
 use Rattle.comparison.proofs.words.Words.word.Goals as goal
 
@@ -11,6 +12,6 @@ returns-then-eq c =
     let step = c.in-Some.ensures.steps in
     record {
       passes_that_word =
-          same_word (c.eq.ensures.0 c.if-eq.true)
+          same_word ((bytes_eq-Decides _ _).0 (sym c.eq.ensures ∙ c.if-eq.true))
           (record { gap = step.0; cut = step.1; some = step.2; blank = step.3; solid = step.4 });
     }
