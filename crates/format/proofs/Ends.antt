@@ -1,14 +1,13 @@
 -- Where the sections begin and end.
-use Rattle.std.proofs.Common.{◌≡◌, ℕ, ◌+◌, ◌*◌, ◌/◌, ◌<◌, ◌≤◌, ◌⊎◌, List, length, sym, refl, ap, ◌∙◌, subst, inl, inr, ⊎_elim, arith}
+use Rattle.std.proofs.Common.{◌≡◌, ℕ, ◌+◌, ◌*◌, ◌<◌, ◌≤◌, List, length, sym, refl, subst, inr, ⊎_elim, arith}
 use Rattle.format.specs.declared.fault.Part.{Part}
 use Rattle.format.specs.declared.fault.Part.TheVariants as P
 use Rattle.format.specs.declared.fault.Refusal.TheVariants as R
 use Rattle.format.specs.declared.section.Section.{Section}
 use Rattle.format.specs.declared.section.Section.TheVariants as X
-use Rattle.format.specs.Faults.{part_number}
-use Rattle.format.specs.Layout.{u16at, u32at, end_from, part_from, start_of, end_of, count_of, bytes_in, width_of}
+use Rattle.format.specs.Layout.{u16at, u32at, end_from, start_of, end_of, width_of}
 use Rattle.format.specs.Framing.{Framing, LengthFits, Within, SectionPart, SectionBreaks}
-use Rattle.format.specs.Sections.{bytes_of, part_of, records_of, Holds}
+use Rattle.format.specs.Sections.{bytes_of, part_of, Holds}
 use Rattle.format.specs.Stages.{Cuts, FirstDiffers}
 use Rattle.format.proofs.Firsts.{AllBefore, none_breaks_before, none_breaks}
 

@@ -1,12 +1,12 @@
 -- Causes that are tested one number after another: what the first fault is.
-use Rattle.std.proofs.Common.{◌≡◌, ℕ, ◌+◌, ◌<◌, ◌≤◌, cond, eqb, ◌⊎◌, sym, refl, ap, ◌∙◌, subst, inl, inr, ⊎_elim, arith}
+use Rattle.std.proofs.Common.{◌≡◌, ℕ, ◌+◌, ◌<◌, ◌≤◌, cond, eqb, sym, refl, ap, ◌∙◌, subst, ⊎_elim, arith}
 use Rattle.std.proofs.lemmas.Bool.{cases_eq}
 use Rattle.format.specs.declared.fault.Fault.{Fault}
 use Rattle.format.specs.declared.fault.Part.{Part}
 use Rattle.format.specs.declared.fault.Part.TheVariants as P
 use Rattle.format.specs.declared.fault.Refusal.{Refusal}
 use Rattle.format.specs.declared.fault.Refusal.TheVariants as R
-use Rattle.format.specs.Faults.{refusal_number, part_number, Before, Causes, Sooner, First, NoneApply}
+use Rattle.format.specs.Faults.{refusal_number, part_number, Before, Causes, First, NoneApply}
 use Rattle.format.specs.Framing.{SectionPart, SectionBreaks}
 
 -- a number has one refusal

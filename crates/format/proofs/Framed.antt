@@ -1,16 +1,16 @@
 -- From the steps of taking a sheet apart to its first cause.
-use Rattle.std.proofs.Common.{◌≡◌, ℕ, ◌+◌, ◌<◌, ◌≤◌, ◌⊎◌, List, sym, refl, ap, ◌∙◌, subst, inl, inr, ⊎_elim, arith}
+use Rattle.std.proofs.Common.{◌≡◌, ℕ, ◌<◌, ◌≤◌, List, sym, refl, ◌∙◌, subst, ⊎_elim, arith}
 use Rattle.format.specs.declared.fault.Part.{Part}
 use Rattle.format.specs.declared.fault.Part.TheVariants as P
 use Rattle.format.specs.declared.fault.Refusal.TheVariants as R
 use Rattle.format.specs.declared.section.Section.{Section}
 use Rattle.format.specs.declared.section.Sheet.{Sheet}
-use Rattle.format.specs.Faults.{part_number, Before, NoneApply}
-use Rattle.format.specs.Layout.{count_of, least_of, most_of}
-use Rattle.format.specs.Framing.{Framing, Version1, CountFits, SectionPart, SectionBreaks}
+use Rattle.format.specs.Faults.{part_number}
+use Rattle.format.specs.Layout.{least_of, most_of}
+use Rattle.format.specs.Framing.{Framing, Version1, CountFits, SectionPart}
 use Rattle.format.specs.Sections.{part_of, records_of, Holds, Splits, InLimits, Framed}
 use Rattle.format.specs.Stages.{FirstDiffers, FirstOutside}
-use Rattle.format.proofs.Firsts.{Never, ClearTo, clear_none, clear_more, clear_all, FirstPlace, AllBefore, none_breaks_before, none_breaks}
+use Rattle.format.proofs.Firsts.{clear_none, clear_more, clear_all, FirstPlace, AllBefore, none_breaks_before, none_breaks}
 
 module _ (bs : List ℕ) where
   pub version_first : (s k : ℕ) → s ≡ 0 → k ≡ 0 → (Version1 bs → ⊥) → FirstPlace (Framing bs R.Version) s k

@@ -1,8 +1,7 @@
 -- What a sheet is refused for before its records are looked at: refusals 1 to 3.
-use Rattle.std.specs.Prelude.{◌≡◌, ℕ, ◌+◌, ◌<◌, ◌≤◌, ◌⊎◌, List, length, slice_index}
+use Rattle.std.specs.Prelude.{◌≡◌, ℕ, ◌+◌, ◌≤◌, ◌⊎◌, List, length, slice_index}
 use Rattle.format.specs.declared.fault.Part.{Part}
 use Rattle.format.specs.declared.fault.Part.TheVariants as P
-use Rattle.format.specs.declared.fault.Refusal.{Refusal}
 use Rattle.format.specs.declared.fault.Refusal.TheVariants as R
 use Rattle.format.specs.Faults.{Causes, part_number}
 use Rattle.format.specs.Layout.{u32at, end_of, count_of, least_of, most_of}

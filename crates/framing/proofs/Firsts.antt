@@ -7,7 +7,7 @@ use Rattle.framing.specs.declared.fault.Part.TheVariants as P
 use Rattle.framing.specs.declared.fault.Refusal.{Refusal}
 use Rattle.framing.specs.declared.fault.Refusal.TheVariants as R
 use Rattle.framing.specs.Broken.{Breaks, FirstBroken}
-use Rattle.framing.specs.Faults.{refusal_number, part_number, Before, Causes, Sooner, First, NoneApply}
+use Rattle.framing.specs.Faults.{refusal_number, part_number, Before, Causes, First, NoneApply}
 use Rattle.framing.specs.Stages.{FirstOf, FirstPlace, NoRecord}
 
 -- a number has one refusal

@@ -1,5 +1,5 @@
 -- From the steps of taking a sheet apart to its first cause.
-use Rattle.std.proofs.Common.{◌≡◌, ℕ, ◌+◌, ◌*◌, ◌/◌, ◌<◌, ◌≤◌, ◌⊎◌, List, length, get_or, sym, refl, ap, ◌∙◌, subst, inl, inr, ⊎_elim, arith}
+use Rattle.std.proofs.Common.{◌≡◌, ℕ, ◌+◌, ◌*◌, ◌/◌, ◌<◌, ◌≤◌, List, length, refl, ap, ◌∙◌, inl, inr, ⊎_elim, arith}
 use native.Mathlib.Nat.{mul-div_cancel_left}
 use Rattle.framing.specs.declared.fault.Fault.{Fault}
 use Rattle.framing.specs.declared.fault.Part.{Part}
@@ -7,14 +7,14 @@ use Rattle.framing.specs.declared.fault.Part.TheVariants as P
 use Rattle.framing.specs.declared.fault.Refusal.{Refusal}
 use Rattle.framing.specs.declared.fault.Refusal.TheVariants as R
 use Rattle.framing.specs.declared.sheet_format.SheetFormat.{SheetFormat}
-use Rattle.framing.specs.Faults.{refusal_number, part_number, Before}
+use Rattle.framing.specs.Faults.{refusal_number, part_number}
 use Rattle.framing.specs.Framing.{Framing, Version1, LengthFits, CountFits, SectionBreaks, Within}
-use Rattle.framing.specs.Layout.{u32at, end_from, last_end, start_at, count_of, bytes_in}
+use Rattle.framing.specs.Layout.{u32at, last_end, start_at, count_of, bytes_in}
 use Rattle.framing.specs.Plans.{part_at, plan_of, sections_of, width_of}
 use Rattle.framing.specs.Sections.{Holds}
 use Rattle.framing.specs.Stages.{FirstOf, FirstPlace, NoRecord, Sound}
 use Rattle.framing.proofs.Firsts.{Never, ClearTo, clear_none, clear_more, first_whole}
-use Rattle.framing.proofs.Starts.{placed, start_more, start_up, end_at}
+use Rattle.framing.proofs.Starts.{placed, start_up, end_at}
 
 -- the first section that breaks a rule is the first place of such a cause
 section_first : (f : SheetFormat) (Rule : Part → Type 0) (r : Refusal) (i : ℕ) (x : Fault) → i < sections_of f → ((j : ℕ) → j < i → Rule (part_at f j)) → (Rule (part_at f i) → ⊥) →

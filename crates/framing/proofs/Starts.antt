@@ -1,11 +1,11 @@
 -- Where the sections begin and end.
-use Rattle.std.proofs.Common.{◌≡◌, ℕ, zero, suc, ◌+◌, ◌-◌, ◌*◌, ◌<◌, ◌≤◌, List, length, get_or, sym, refl, ap, ◌∙◌, subst, add-one, arith}
+use Rattle.std.proofs.Common.{◌≡◌, ℕ, zero, suc, ◌+◌, ◌-◌, ◌<◌, ◌≤◌, List, length, get_or, sym, refl, ap, ◌∙◌, subst, add-one, arith}
 use Rattle.framing.specs.declared.fault.Part.{Part}
 use Rattle.framing.specs.declared.fault.Part.TheVariants as P
 use Rattle.framing.specs.declared.sheet_format.SheetFormat.{SheetFormat}
 use Rattle.framing.specs.declared.sheet_format.SheetFormat.TheVariants as F
 use Rattle.framing.specs.Faults.{part_number}
-use Rattle.framing.specs.Layout.{u16at, end_from, end_of, last_end, start_at, start_of}
+use Rattle.framing.specs.Layout.{end_from, end_of, last_end, start_at, start_of}
 use Rattle.framing.specs.Plans.{format_of, part_at, plan_of, sections_of, width_of}
 
 -- the section at a place of a format's plan is of that format, and has that place

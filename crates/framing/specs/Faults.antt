@@ -1,5 +1,5 @@
 -- The numbers of refusals and of a sheet's parts, and which fault comes first.
-use Rattle.std.specs.Prelude.{◌≡◌, ℕ, ◌+◌, ◌<◌, ◌⊎◌}
+use Rattle.std.specs.Prelude.{◌≡◌, ℕ, ◌<◌, ◌⊎◌}
 use Rattle.framing.specs.declared.fault.Refusal.{Refusal}
 use Rattle.framing.specs.declared.fault.Refusal.TheVariants as R
 use Rattle.framing.specs.declared.fault.Part.{Part}

@@ -2,7 +2,6 @@
 use Rattle.std.specs.Prelude.{◌≡◌, ℕ, ◌+◌, ◌<◌, ◌≤◌, ◌⊎◌, List, length, slice_index}
 use Rattle.framing.specs.declared.fault.Part.{Part}
 use Rattle.framing.specs.declared.fault.Part.TheVariants as P
-use Rattle.framing.specs.declared.fault.Refusal.{Refusal}
 use Rattle.framing.specs.declared.fault.Refusal.TheVariants as R
 use Rattle.framing.specs.declared.sheet_format.SheetFormat.{SheetFormat}
 use Rattle.framing.specs.Faults.{Causes}

@@ -1,5 +1,5 @@
 -- The sections as parts of the bytes.
-use Rattle.std.specs.Prelude.{◌≡◌, ℕ, ◌+◌, ◌*◌, ◌/◌, ◌<◌, ◌≤◌, List, length}
+use Rattle.std.specs.Prelude.{◌≡◌, ℕ, ◌*◌, ◌/◌, List, length}
 use Rattle.framing.specs.declared.section.Section.{Section}
 use Rattle.framing.specs.declared.section.Section.TheVariants as X
 use Rattle.framing.specs.declared.section.Sheet.{Sheet}

@@ -1,5 +1,5 @@
 -- From what the steps of reading found to what the whole sheet is refused for.
-use Rattle.std.proofs.Common.{◌≡◌, ℕ, ◌/◌, ◌<◌, ◌⊎◌, List, length, sym, refl, ap, ◌∙◌, subst, ⊎_elim, arith}
+use Rattle.std.proofs.Common.{◌≡◌, ℕ, ◌/◌, ◌<◌, List, length, sym, refl, ap, ◌∙◌, subst, ⊎_elim, arith}
 use Rattle.framing.specs.declared.fault.Fault.{Fault}
 use Rattle.framing.specs.declared.fault.Part.{Part}
 use Rattle.framing.specs.declared.fault.Part.TheVariants as P

@@ -1,7 +1,7 @@
 -- Every chain of scopes goes down to scope 1.
 use Rattle.std.proofs.Common.{◌≡◌, ℕ, zero, suc, ◌+◌, ◌-◌, ◌<◌, ◌≤◌, List, map, length, get_or, take, Some, None, Option, sym, refl, ap, ◌∙◌, subst, inl, inr, arith}
 use Rattle.std.proofs.lemmas.List.{get_or-take, length-map, length-take}
-use Rattle.std.proofs.lemmas.Bool.{cases_eq, cases_lt}
+use Rattle.std.proofs.lemmas.Bool.{cases_eq}
 use Rattle.format.specs.declared.ids.ScopeId.{ScopeId}
 use Rattle.reach.specs.declared.data.ScopeData.{ScopeData}
 use Rattle.reach.specs.Blank.{Rooted, Sloping, bare_scope, blank_scope, no_scope, parent_of}

@@ -1,12 +1,12 @@
-use Rattle.std.proofs.Common.{◌≡◌, ℕ, zero, suc, ◌+◌, ◌-◌, ◌*◌, ◌<◌, ◌≤◌, List, [], ◌∷◌, ◌++◌, map, length, get_or, take, drop, set, Some, None, Option, sym, refl, ap, ◌∙◌, subst, add-one, arith}
-use Rattle.std.proofs.lemmas.List.{get_or-take, get_or-drop, length-take, length-map, get_or_past, drop_all}
+use Rattle.std.proofs.Common.{◌≡◌, ℕ, zero, suc, ◌+◌, ◌-◌, ◌<◌, ◌≤◌, List, [], ◌∷◌, map, length, get_or, drop, Some, None, Option, sym, refl, ap, ◌∙◌, add-one, arith}
+use Rattle.std.proofs.lemmas.List.{get_or-take, get_or-drop, length-take, length-map, drop_all}
 use Rattle.format.specs.declared.ids.NodeId.{NodeId}
 use Rattle.sheet.specs.declared.node.Node.{Node}
 use Rattle.reach.specs.declared.data.Place.{Place}
 use Rattle.format.specs.declared.kind.NodeKind.{NodeKind}
 use Rattle.format.specs.Ids.{number_of}
 use Rattle.reach.specs.Shape.{Shape, Below, node_at, child_at, children_of}
-use Rattle.reach.specs.Visit.{State, Visit, skip, made, put, added, all, opened, step, of_child, deep, folded, below, visit_of, visits, size_of, sizes, size_step, total, others, each}
+use Rattle.reach.specs.Visit.{State, Visit, skip, all, step, of_child, deep, folded, below, visit_of, visits, size_of, sizes, size_step, total, others, each}
 
 -- every child of n is numbered below n
 pub falls : (b : Shape) (fall : Below b.nodes b.children) (n : ℕ) → 0 < n → n ≤ 512 → (i : ℕ) → i < length (children_of b n) → number_of (get_or (children_of b n) i None) < n

@@ -1,23 +1,12 @@
-use Rattle.std.proofs.Common.{◌≡◌, ℕ, zero, suc, ◌+◌, ◌-◌, ◌<◌, ◌≤◌, Bool, true, false, cond, eqb, ◌≢◌, ◌⊎◌, List, [], ◌∷◌, ◌++◌, map, length, get_or, take, drop, set, Some, None, Option, sym, refl, ap, ◌∙◌, subst, inl, inr, append_assoc, append-nil, arith}
+use Rattle.std.proofs.Common.{◌≡◌, ℕ, zero, suc, ◌≤◌, List, [], ◌∷◌, ◌++◌, map, length, get_or, take, drop, sym, refl, ap, ◌∙◌, subst, append_assoc}
 use mathlib.Core.List.{map-append}
-use Rattle.format.specs.declared.ids.ScopeId.{ScopeId}
 use Rattle.format.specs.declared.ids.BindingId.{BindingId}
-use Rattle.format.specs.declared.ids.Name.{Name}
-use Rattle.format.specs.declared.ids.HygieneId.{HygieneId}
-use Rattle.format.specs.declared.ids.MacroId.{MacroId}
-use Rattle.reach.specs.Bare.{Scope}
-use Rattle.reach.specs.Bare.{Entry}
 use Rattle.reach.specs.declared.data.Place.{Place}
 use Rattle.reach.specs.declared.data.ScopeKind.{ScopeKind}
-use Rattle.reach.specs.declared.data.ScopeKind.TheVariants as scope
-use Rattle.format.specs.declared.kind.NodeKind.{NodeKind}
-use Rattle.format.specs.declared.kind.NodeKind.TheVariants.{Leaf, Use, Sequence, And, If, Let, Block, Loop, Closure, Match, Const, Repeat, Cast, LeafPattern, Bind, Patterns, ValuePattern, LeafType, Types, ArrayType, LetStatement, ExprStatement, MacroDef, OtherItem, Arm, Body}
-use Rattle.reach.specs.Blank.{no_scope}
 use Rattle.reach.specs.Shape.{Shape}
-use Rattle.reach.specs.Visit.{State, Visit, skip, nth, made, put, added, inner, constantly, all, each, step, others, opened, labelled}
-use Rattle.reach.specs.Law.{bound, held, Sight, binds, leaves, gathered, joined, all_binds, parameters, brings, shuts, bind_step, leave_step, binding_of, below}
-use Rattle.reach.specs.Tables.{kids, kid, kind_of, pattern_at, turn}
-use Rattle.reach.proofs.Runs.{View, Fair, Stands, Run, view_in, run_view, run_none, run_then, run_at, run_put, run_added, run_made, made_fair, made_kept, made_view}
+use Rattle.reach.specs.Visit.{State, Visit, skip, made, inner, constantly, all, each, others}
+use Rattle.reach.specs.Law.{bound, Sight, binds, leaves, gathered, all_binds, parameters}
+use Rattle.reach.proofs.Runs.{View, Fair, Run, view_in, run_view, run_none, run_then, run_at, made_fair, made_kept, made_view}
 
 -- a place at which the binds xs are met, and at its constant scope those of the parameters
 pub record Here (b : Shape) (m : ℕ) (at : Place) (s : State) (ns : List (List ℕ)) (xs : List ℕ) : Type 0 where

@@ -1,8 +1,8 @@
 -- The laws of a body, as the visit needs them.
-use Rattle.std.proofs.Common.{◌≡◌, ℕ, zero, suc, ◌+◌, ◌-◌, ◌*◌, ◌%◌, ◌<◌, ◌≤◌, Bool, true, false, cond, eqb, leb, ◌⊎◌, List, [], ◌∷◌, ◌++◌, map, length, get_or, take, drop, Some, None, Option, sym, refl, ap, ◌∙◌, subst, inl, inr, arith}
+use Rattle.std.proofs.Common.{◌≡◌, ℕ, zero, suc, ◌+◌, ◌-◌, ◌*◌, ◌%◌, ◌<◌, ◌≤◌, Bool, true, false, cond, eqb, List, [], ◌∷◌, ◌++◌, map, length, get_or, take, drop, Some, None, Option, sym, refl, ap, ◌∙◌, subst, inl, inr, arith}
 use mathlib.Core.List.{map-append}
 use Rattle.std.proofs.lemmas.List.{get_or_past, get_or-take, get_or-drop, length-map, length-take, take_all}
-use Rattle.std.proofs.lemmas.Bool.{cases_lt, cases_eq, cases_Bool, both_ways, eq-eqb, eqb-true, eqb-false, leb-true, ne_eqb, lt-ltb, and_parts, cond-true, cond-false}
+use Rattle.std.proofs.lemmas.Bool.{cases_lt, cases_eq, cases_Bool, both_ways, eq-eqb, eqb-true, ne_eqb, lt-ltb, cond-true, cond-false}
 use Rattle.format.specs.declared.ids.NodeId.{NodeId}
 use Rattle.format.specs.declared.kind.NodeKind.{NodeKind}
 use Rattle.format.specs.declared.kind.NodeKind.TheVariants.{Leaf, Use, Sequence, And, If, Let, Block, Loop, Closure, Match, Const, Repeat, Cast, LeafPattern, Bind, Patterns, ValuePattern, LeafType, Types, ArrayType, LetStatement, ExprStatement, MacroDef, OtherItem, Arm, Body}
@@ -13,14 +13,14 @@ use Rattle.format.specs.Kinds.{admits, count_suits, pick, same_sort, slot, slot_
 use Rattle.sheet.specs.declared.body.Body.{Body as Sheet-body}
 use Rattle.sheet.specs.declared.node.Node.{Node}
 use Rattle.sheet.specs.Held.{tree_of}
-use Rattle.sheet.specs.Shape.{blank, times, total, child_at as sheet_child, node_at as sheet_node}
+use Rattle.sheet.specs.Shape.{blank, times, total, child_at as sheet_child}
 use Rattle.sheet.specs.Tables.{listed}
 use Rattle.sheet.proofs.Counts.{laid_within, total_more, total_whole}
 use Rattle.sheet.proofs.Listed.{listed_few}
 use Rattle.reach.specs.Held.{shape_of}
 use Rattle.reach.specs.Law.{TreeLaw}
 use Rattle.reach.specs.Once.{Once, children_to, numbers}
-use Rattle.reach.specs.Shape.{Shape, Below, children_of}
+use Rattle.reach.specs.Shape.{Below, children_of}
 use Rattle.reach.specs.Tables.{Fits, Full, binding, is_body, kid, kids, kind_of, most, pattern_at, suits, turn, unless}
 use Rattle.reach.specs.Words.{twice}
 use Rattle.reach.proofs.EachKind.{turn_twice}

@@ -1,5 +1,4 @@
-use Rattle.std.proofs.Common.{◌≡◌, ℕ, zero, suc, ◌+◌, ◌-◌, ◌<◌, ◌≤◌, Bool, true, false, cond, eqb, ◌≢◌, ◌⊎◌, List, [], ◌∷◌, ◌++◌, map, length, get_or, take, drop, set, Some, None, Option, sym, refl, ap, ◌∙◌, subst, inl, inr, append_assoc, append-nil, arith}
-use mathlib.Core.List.{map-append}
+use Rattle.std.proofs.Common.{◌≡◌, ℕ, zero, suc, ◌-◌, ◌<◌, ◌≤◌, true, false, ◌⊎◌, List, [], ◌∷◌, length, get_or, drop, set, Some, None, Option, sym, refl, ap, ◌∙◌, subst, inl, inr, arith}
 use Rattle.format.specs.declared.ids.ScopeId.{ScopeId}
 use Rattle.format.specs.declared.ids.BindingId.{BindingId}
 use Rattle.format.specs.declared.ids.BlockId.{BlockId}
@@ -7,22 +6,18 @@ use Rattle.format.specs.declared.ids.LabelId.{LabelId}
 use Rattle.format.specs.declared.ids.Name.{Name}
 use Rattle.format.specs.declared.ids.HygieneId.{HygieneId}
 use Rattle.format.specs.declared.ids.MacroId.{MacroId}
-use Rattle.reach.specs.Bare.{Scope}
-use Rattle.reach.specs.Bare.{Entry}
 use Rattle.reach.specs.declared.data.Place.{Place}
 use Rattle.reach.specs.declared.data.ScopeKind.{ScopeKind}
 use Rattle.reach.specs.declared.data.ScopeKind.TheVariants as scope
 use Rattle.format.specs.declared.kind.NodeKind.{NodeKind}
 use Rattle.format.specs.declared.kind.NodeKind.TheVariants.{Leaf, Use, Sequence, And, If, Let, Block, Loop, Closure, Match, Const, Repeat, Cast, LeafPattern, Bind, Patterns, ValuePattern, LeafType, Types, ArrayType, LetStatement, ExprStatement, MacroDef, OtherItem, Arm, Body}
-use Rattle.reach.specs.Blank.{no_scope}
 use Rattle.reach.specs.Shape.{Shape}
-use Rattle.reach.specs.Visit.{State, Visit, skip, nth, made, put, added, inner, constantly, all, each, step, others, opened, labelled, selfed}
-use Rattle.reach.specs.Law.{bound, held, Sight, binds, leaves, gathered, joined, all_binds, parameters, brings, shuts, bind_step, leave_step, binding_of, below, self_of}
+use Rattle.reach.specs.Visit.{State, Visit, skip, nth, made, put, added, inner, constantly, all, each, step, others, labelled}
 use Rattle.reach.specs.Words.{twice}
 use Rattle.reach.proofs.EachKind.{tail_at, others_at}
-use Rattle.std.proofs.lemmas.List.{get_or-set_same, get_or-set_other, length-set, get_or-drop}
+use Rattle.std.proofs.lemmas.List.{get_or-set_same, get_or-set_other, length-set}
 use Rattle.std.proofs.lemmas.Bool.{cases_eq}
-use Rattle.reach.specs.Tables.{is_expr, most, kids, kid, kind_of, pattern_at, turn}
+use Rattle.reach.specs.Tables.{is_expr, most, kids, kid, kind_of}
 
 -- e stands at n or below it
 pub data Under (b : Shape) (e : ℕ) : ℕ → Type 0 where

@@ -1,18 +1,13 @@
-use Rattle.std.proofs.Common.{◌≡◌, ℕ, zero, suc, ◌+◌, ◌-◌, ◌<◌, ◌≤◌, Bool, true, false, cond, eqb, ◌≢◌, ◌⊎◌, ◌↔◌, List, [], ◌∷◌, ◌++◌, map, length, get_or, take, drop, Some, None, Option, sym, refl, ap, ◌∙◌, subst, inl, inr, append_assoc, append-nil, zero-add, arith}
-use mathlib.Core.List.{map-append}
+use Rattle.std.proofs.Common.{◌≡◌, ℕ, zero, suc, ◌+◌, ◌-◌, ◌<◌, ◌≤◌, Bool, true, false, cond, eqb, ◌⊎◌, List, [], ◌∷◌, ◌++◌, map, get_or, Some, None, Option, sym, refl, ap, ◌∙◌, subst, inl, inr, zero-add, arith}
 use Rattle.std.proofs.lemmas.Bool.{cases_lt, cases_eq, cases_order, eq-eqb, ne_eqb, cond-true, cond-false}
-use Rattle.std.proofs.lemmas.List.{get_or_past, length-map}
 use Rattle.format.specs.declared.ids.NodeId.{NodeId}
-use Rattle.format.specs.declared.ids.ScopeId.{ScopeId}
-use Rattle.format.specs.declared.kind.NodeKind.{NodeKind}
 use Rattle.format.specs.Ids.{number_of}
 use Rattle.reach.specs.Shape.{Shape, Below, children_of}
-use Rattle.reach.specs.Visit.{State, built}
-use Rattle.reach.specs.Law.{bound, Sight, root, below, ReachStands, ReachIn, EntriesIn, OnChain, itself, outward, Holds, BoundFor, MetOnce, held, ListedFor, parameter, brought, kept, Met, Seen, TreeLaw, Lawful, Among, binds, parameters, brings, shuts}
+use Rattle.reach.specs.Visit.{State}
+use Rattle.reach.specs.Law.{bound, Sight, root, below, ReachStands, ReachIn, EntriesIn, OnChain, itself, outward, Holds, MetOnce, held, ListedFor, parameter, brought, kept, Met, TreeLaw, Among, parameters, brings, shuts}
 use Rattle.reach.specs.Tables.{NodeOf, kids, kid, kind_of}
 use Rattle.sheet.specs.Shape.{times}
 use Rattle.reach.specs.Once.{Once, numbers, children_to}
-use Rattle.reach.proofs.Fold.{falls}
 use Rattle.reach.proofs.Whole.{seen, low, none_some}
 use Rattle.format.specs.declared.ids.BindingId.{BindingId}
 use Rattle.reach.specs.Blank.{no_scope}

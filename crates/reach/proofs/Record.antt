@@ -1,4 +1,4 @@
-use Rattle.std.proofs.Common.{◌≡◌, ℕ, zero, suc, ◌+◌, ◌-◌, ◌<◌, ◌≤◌, Bool, true, ◌⊎◌, List, [], ◌∷◌, map, length, get_or, drop, replicate, Some, None, Option, sym, refl, ap, ◌∙◌, subst, inl, inr, arith}
+use Rattle.std.proofs.Common.{◌≡◌, ℕ, zero, suc, ◌+◌, ◌-◌, ◌<◌, ◌≤◌, true, ◌⊎◌, List, [], ◌∷◌, map, length, get_or, drop, Some, None, Option, sym, refl, ap, ◌∙◌, subst, inl, inr, arith}
 use lib.ListN.{length-replicate}
 use Rattle.std.proofs.lemmas.Bool.{cases_eq}
 use Rattle.std.proofs.lemmas.List.{get_or_past}
@@ -6,16 +6,15 @@ use Rattle.format.specs.declared.ids.NodeId.{NodeId}
 use Rattle.format.specs.declared.ids.BindingId.{BindingId}
 use Rattle.format.specs.declared.ids.ScopeId.{ScopeId}
 use Rattle.reach.specs.declared.data.Place.{Place}
-use Rattle.format.specs.declared.kind.NodeKind.{NodeKind}
 use Rattle.format.specs.Ids.{number_of}
 use Rattle.reach.specs.Shape.{Shape, Below, children_of}
-use Rattle.reach.specs.Visit.{State, Visit, skip, nth, each, step, of_child, visit_of, visits, built, first, start, self_in, selfed}
+use Rattle.reach.specs.Visit.{State, skip, each, step, of_child, visit_of, visits, built, first, start, self_in, selfed}
 use Rattle.reach.specs.Law.{TreeLaw, AllRecorded}
 use Rattle.reach.specs.Tables.{kind_of, kids, kid, is_expr, most, Full}
 use Rattle.reach.proofs.Fold.{folded_is, falls}
 use Rattle.reach.proofs.Whole.{low}
 use Rattle.reach.proofs.Reach.{parent_of}
-use Rattle.reach.proofs.Marks.{Under, Marked, Recorded, Tame, Tames, Known, tame_kind, each_tame, tame_none, tame_at, tame_drop, weaken, first_rest, added_marks, SomeOf, opened_up}
+use Rattle.reach.proofs.Marks.{Under, Marked, Recorded, Tame, Tames, Known, tame_kind, each_tame, tame_none, tame_at, tame_drop, first_rest, added_marks, SomeOf, opened_up}
 
 tames_of : (b : Shape) (e : ℕ) (cs : List (Option NodeId)) (n : ℕ) → ((i : ℕ) → i < length cs → number_of (get_or cs i None) < n) → ((c : ℕ) → 0 < c → c < n → Tame b e c (visit_of b c)) → Tames b e (map number_of cs) (map (of_child skip (visit_of b)) cs)
 tames_of b e [] n h ih = Tames.none

@@ -1,15 +1,9 @@
-use Rattle.std.proofs.Common.{◌≡◌, ℕ, zero, suc, ◌+◌, List, [], ◌∷◌, get_or, drop, Option, sym, refl, ap, ◌∙◌}
+use Rattle.std.proofs.Common.{◌≡◌, sym, ap, ◌∙◌}
 use Rattle.sheet.specs.declared.node.Node.{Node}
 use Rattle.format.specs.declared.ids.NodeId.{NodeId}
-use Rattle.format.specs.declared.ids.ScopeId.{ScopeId}
-use Rattle.format.specs.declared.ids.MacroId.{MacroId}
-use Rattle.format.specs.declared.ids.BindingId.{BindingId}
-use Rattle.reach.specs.declared.data.Place.{Place}
 use Rattle.format.specs.declared.kind.NodeKind.{NodeKind}
-use Rattle.format.specs.declared.kind.NodeKind.TheVariants.{Leaf}
-use Rattle.reach.specs.declared.data.ScopeKind.TheVariants as scope
 use Rattle.reach.specs.Shape.{Shape, Below, node_at}
-use Rattle.reach.specs.Visit.{State, Visit, skip, made, put, added, all, opened, step, visit_of, visits}
+use Rattle.reach.specs.Visit.{step, visit_of, visits}
 use Rattle.reach.proofs.Fold.{visit_is}
 
 -- the visit of a node of kind k

@@ -1,26 +1,18 @@
-use Rattle.std.proofs.Common.{◌≡◌, ℕ, zero, suc, ◌+◌, ◌-◌, ◌<◌, ◌≤◌, Bool, true, false, cond, eqb, ◌≢◌, ◌⊎◌, List, [], ◌∷◌, ◌++◌, map, length, get_or, take, drop, set, replicate, Some, None, Option, sym, refl, ap, ◌∙◌, subst, inl, inr, append_assoc, append-nil, arith}
+use Rattle.std.proofs.Common.{◌≡◌, ℕ, zero, suc, ◌-◌, ◌<◌, ◌≤◌, Bool, true, false, cond, List, [], ◌∷◌, ◌++◌, map, length, get_or, drop, replicate, Some, None, Option, sym, refl, ap, ◌∙◌, subst, inl, inr, append-nil, arith}
 use mathlib.Core.List.{map-append}
 use Rattle.format.specs.declared.ids.ScopeId.{ScopeId}
 use Rattle.format.specs.declared.ids.BindingId.{BindingId}
-use Rattle.format.specs.declared.ids.Name.{Name}
-use Rattle.format.specs.declared.ids.HygieneId.{HygieneId}
-use Rattle.format.specs.declared.ids.MacroId.{MacroId}
-use Rattle.reach.specs.Bare.{Scope}
-use Rattle.reach.specs.Bare.{Entry}
-use Rattle.reach.specs.declared.data.Place.{Place}
-use Rattle.reach.specs.declared.data.ScopeKind.{ScopeKind}
-use Rattle.reach.specs.declared.data.ScopeKind.TheVariants as scope
 use Rattle.format.specs.declared.kind.NodeKind.{NodeKind}
 use Rattle.format.specs.declared.kind.NodeKind.TheVariants.{Leaf, Use, Sequence, And, If, Let, Block, Loop, Closure, Match, Const, Repeat, Cast, LeafPattern, Bind, Patterns, ValuePattern, LeafType, Types, ArrayType, LetStatement, ExprStatement, MacroDef, OtherItem, Arm, Body}
 use Rattle.format.specs.declared.ids.NodeId.{NodeId}
 use Rattle.reach.specs.Blank.{no_scope}
 use Rattle.format.specs.Ids.{number_of}
 use Rattle.reach.specs.Shape.{Shape, Below, children_of}
-use Rattle.reach.specs.Visit.{State, Visit, skip, nth, all, each, step, of_child, folded, below as values, visit_of, visits, built, first, start, self_in, selfed}
-use Rattle.reach.specs.Law.{BlocksHoldNone, IsIn, OnlyExpressions, bound, held, holds_none, Sight, root, below, Met, Seen, TreeLaw, present, binds, leaves, joined, all_binds, parameters, bind_step, leave_step, binding_of, self_of, brings, shuts}
+use Rattle.reach.specs.Visit.{State, Visit, skip, each, step, of_child, folded, below as values, visit_of, visits, built, first, start, self_in, selfed}
+use Rattle.reach.specs.Law.{BlocksHoldNone, OnlyExpressions, bound, held, holds_none, Sight, root, below, Met, Seen, TreeLaw, present, binds, leaves, all_binds, parameters, bind_step, leave_step, binding_of, self_of, brings, shuts}
 use Rattle.reach.specs.Tables.{is_body, suits, unless, Fits, NodeOf, binding, kids, kid, kind_of, pattern_at}
-use Rattle.reach.proofs.Runs.{View, Fair, Stands, Run, view_in, run_view, run_none, run_then, run_at}
-use Rattle.reach.proofs.Good.{Here, After, Good, Goods, within, here_run, quiet, Each, each_good, good_none, good_at, good_drop}
+use Rattle.reach.proofs.Runs.{View, Fair, Run, run_then}
+use Rattle.reach.proofs.Good.{Here, After, Good, Goods, within, here_run, quiet, each_good, good_none, good_at, good_drop}
 use Rattle.reach.proofs.EachKind.{Given, by_kind, tail_at, self_run}
 use Rattle.std.proofs.lemmas.Bool.{cases_lt}
 use Rattle.std.proofs.lemmas.List.{get_or_past, length-map}

@@ -1,11 +1,10 @@
-use Rattle.std.proofs.Common.{◌≡◌, ℕ, zero, suc, ◌+◌, ◌-◌, ◌<◌, ◌≤◌, ◌⊎◌, List, [], ◌∷◌, ◌++◌, map, length, get_or, take, drop, Some, None, Option, sym, refl, ap, ◌∙◌, subst, inl, inr, arith}
-use Rattle.format.specs.declared.ids.BindingId.{BindingId}
+use Rattle.std.proofs.Common.{◌≡◌, ℕ, zero, suc, ◌<◌, ◌≤◌, List, [], ◌∷◌, map, get_or, take, drop, Some, None, sym, refl, ap, ◌∙◌, subst, inl, inr, arith}
 use Rattle.format.specs.declared.kind.NodeKind.{NodeKind}
 use Rattle.format.specs.declared.kind.NodeKind.TheVariants.{Leaf, Use, Sequence, And, If, Let, Block, Loop, Closure, Match, Const, Repeat, Cast, LeafPattern, Bind, Patterns, ValuePattern, LeafType, Types, ArrayType, LetStatement, ExprStatement, MacroDef, OtherItem, Arm, Body}
 use Rattle.reach.specs.Shape.{Shape, Below}
 use Rattle.reach.specs.Visit.{State, others, self_in}
-use Rattle.reach.specs.Tables.{kind_of, kids, kid, NodeOf, turn}
-use Rattle.reach.specs.Law.{TreeLaw, ListedFor, ReachIn, parameters, self_of, Among, binds, leaves, joined, all_binds, gathered, brings, bind_step, leave_step}
+use Rattle.reach.specs.Tables.{kind_of, kids, kid, turn}
+use Rattle.reach.specs.Law.{TreeLaw, ListedFor, ReachIn, parameters, self_of, Among, binds, leaves, all_binds, gathered, brings, bind_step, leave_step}
 use Rattle.reach.specs.Words.{BoundIn, Brings, Comes, Lasts, ReachLaw, Reaches, StaysBelow, Under, twice}
 use Rattle.reach.proofs.Whole.{low, binds_are, leaves_are}
 use Rattle.reach.proofs.Reach.{among_left, among_right, among_split}

@@ -1,7 +1,6 @@
 -- The definition of the tree, computed on worked examples.
-use Rattle.std.specs.Prelude.{◌≡◌, ℕ, ◌<◌, ◌≤◌, List, [], ◌∷◌, Some, None, Option, slice_index_or}
+use Rattle.std.specs.Prelude.{◌≡◌, ℕ, [], ◌∷◌, Some, None, Option, slice_index_or}
 use Rattle.std.proofs.Common.{lit<, lit≤}
-use Rattle.format.specs.declared.ids.BindingId.{BindingId}
 use Rattle.format.specs.declared.ids.NodeId.{NodeId}
 use Rattle.format.specs.declared.ids.ScopeId.{ScopeId}
 use Rattle.format.specs.declared.kind.NodeKind.{NodeKind}

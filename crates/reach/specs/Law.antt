@@ -1,20 +1,17 @@
 -- The laws of a scope tree: its form, and the binds in sight at each node, as lists.
-use Rattle.std.specs.Prelude.{◌≡◌, ℕ, zero, suc, ◌+◌, ◌-◌, ◌<◌, ◌≤◌, Bool, true, false, cond, ◌⊎◌, ◌↔◌, List, [], ◌∷◌, ◌++◌, map, length, get_or, take, drop, Some, None, Option, ◌==◌, slice_index, slice_index_or}
-use Rattle.format.specs.declared.ids.NodeId.{NodeId}
+use Rattle.std.specs.Prelude.{◌≡◌, ℕ, zero, suc, ◌-◌, ◌<◌, ◌≤◌, Bool, true, false, cond, ◌⊎◌, ◌↔◌, List, [], ◌∷◌, ◌++◌, map, length, get_or, take, drop, Some, None, Option, ◌==◌, slice_index, slice_index_or}
 use Rattle.format.specs.declared.ids.ScopeId.{ScopeId}
 use Rattle.format.specs.declared.ids.BindingId.{BindingId}
-use Rattle.reach.specs.Bare.{Scope}
 use Rattle.reach.specs.Bare.{Entry}
 use Rattle.format.specs.declared.kind.NodeKind.{NodeKind}
 use Rattle.format.specs.declared.kind.NodeKind.TheVariants.{Leaf, Use, Sequence, And, If, Let, Block, Loop, Closure, Match, Const, Repeat, Cast, LeafPattern, Bind, Patterns, ValuePattern, LeafType, Types, ArrayType, LetStatement, ExprStatement, MacroDef, OtherItem, Arm, Body}
 use Rattle.reach.specs.declared.data.ScopeKind.{ScopeKind}
 use Rattle.reach.specs.declared.data.ScopeKind.TheVariants as scope
 use Rattle.reach.specs.Blank.{no_scope}
-use Rattle.format.specs.Ids.{number_of}
-use Rattle.reach.specs.Shape.{Shape, Below, node_at, children_of}
+use Rattle.reach.specs.Shape.{Shape, Below}
 use Rattle.reach.specs.Visit.{State, folded, others, built, self_in}
 use Rattle.reach.specs.Once.{Once}
-use Rattle.reach.specs.Tables.{kind_of, kids, kid, turn, pattern_at, NodeOf, binding, Fits, is_body, is_expr, Full}
+use Rattle.reach.specs.Tables.{kind_of, kids, kid, turn, NodeOf, Fits, is_body, is_expr, Full}
 
 abbrev pub present : {X : Type 0} → X → (ℕ → X) → ℕ → X
 present x f zero = x

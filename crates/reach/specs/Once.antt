@@ -1,5 +1,5 @@
 -- That every node but the last is a child exactly once, by counting.
-use Rattle.std.specs.Prelude.{◌≡◌, ℕ, zero, suc, ◌+◌, ◌-◌, ◌<◌, ◌≤◌, cond, eqb, List, [], ◌∷◌, ◌++◌, Some, None, Option}
+use Rattle.std.specs.Prelude.{◌≡◌, ℕ, zero, suc, ◌<◌, List, [], ◌∷◌, ◌++◌, Some, None, Option}
 use Rattle.format.specs.declared.ids.NodeId.{NodeId}
 use Rattle.sheet.specs.Shape.{times}
 use Rattle.reach.specs.Shape.{Shape, children_of}

@@ -1,8 +1,7 @@
 -- The nodes of a body and their children: node number n stands at place n - 1.
-use Rattle.std.specs.Prelude.{◌≡◌, ℕ, ◌+◌, ◌-◌, ◌<◌, ◌≤◌, List, length, get_or, take, drop, Some, None, Option, slice_index_or}
+use Rattle.std.specs.Prelude.{ℕ, ◌+◌, ◌-◌, ◌<◌, ◌≤◌, List, get_or, take, drop, None, Option, slice_index_or}
 use Rattle.sheet.specs.declared.node.Node.{Node}
 use Rattle.format.specs.declared.ids.NodeId.{NodeId}
-use Rattle.format.specs.declared.kind.NodeKind.{NodeKind}
 use Rattle.sheet.specs.Shape.{blank}
 use Rattle.format.specs.Ids.{number_of}
 

@@ -1,17 +1,11 @@
 -- The nodes of a body, by number: their kinds, their children, and what a lawful body has of them.
-use Rattle.std.specs.Prelude.{◌≡◌, ℕ, zero, suc, ◌+◌, ◌-◌, ◌<◌, ◌≤◌, Bool, true, false, cond, ◌⊎◌, ◌↔◌, List, [], ◌∷◌, ◌++◌, map, length, Some, None, Option, slice_index}
+use Rattle.std.specs.Prelude.{◌≡◌, ℕ, zero, suc, ◌<◌, ◌≤◌, Bool, true, false, List, map, length, slice_index}
 use Rattle.format.specs.declared.kind.Sort.TheVariants as S
 use Rattle.format.specs.Kinds.{same_sort, sort_of}
-use Rattle.format.specs.declared.ids.NodeId.{NodeId}
-use Rattle.format.specs.declared.ids.ScopeId.{ScopeId}
-use Rattle.format.specs.declared.ids.BindingId.{BindingId}
-use Rattle.reach.specs.Bare.{Scope}
-use Rattle.reach.specs.Bare.{Entry}
 use Rattle.format.specs.declared.kind.NodeKind.{NodeKind}
 use Rattle.format.specs.declared.kind.NodeKind.TheVariants.{Leaf, Use, Sequence, And, If, Let, Block, Loop, Closure, Match, Const, Repeat, Cast, LeafPattern, Bind, Patterns, ValuePattern, LeafType, Types, ArrayType, LetStatement, ExprStatement, MacroDef, OtherItem, Arm, Body}
-use Rattle.reach.specs.Blank.{no_scope}
 use Rattle.format.specs.Ids.{number_of}
-use Rattle.reach.specs.Shape.{Shape, Below, node_at, children_of}
+use Rattle.reach.specs.Shape.{Shape, node_at, children_of}
 
 abbrev pub kind_of : Shape → ℕ → NodeKind
 kind_of b n = (node_at b.nodes n).kind

@@ -1,6 +1,5 @@
 -- The scope tree by definition: the visit of a body, one clause for each kind of node.
-use Rattle.std.specs.Prelude.{◌≡◌, ℕ, zero, suc, ◌+◌, ◌-◌, ◌*◌, ◌<◌, ◌≤◌, List, [], ◌∷◌, ◌++◌, map, length, drop, replicate, Some, None, Option, slice_index_or, slice_set}
-use Rattle.sheet.specs.declared.node.Node.{Node}
+use Rattle.std.specs.Prelude.{ℕ, zero, suc, ◌+◌, ◌-◌, List, [], ◌∷◌, ◌++◌, map, length, drop, replicate, Some, None, Option, slice_index_or, slice_set}
 use Rattle.format.specs.declared.ids.NodeId.{NodeId}
 use Rattle.format.specs.declared.ids.ScopeId.{ScopeId}
 use Rattle.format.specs.declared.ids.BindingId.{BindingId}

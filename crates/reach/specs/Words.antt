@@ -1,15 +1,14 @@
 -- How far a name reaches, in the words of the Rust Reference, over the nodes alone. Rules of the
 -- Reference are named by their labels; what the ported crate alone adds stands apart.
-use Rattle.std.specs.Prelude.{◌≡◌, ℕ, zero, suc, ◌+◌, ◌<◌, ◌≤◌, false, ◌↔◌, List, map, Some, None, Option, slice_index_or}
+use Rattle.std.specs.Prelude.{◌≡◌, ℕ, zero, suc, ◌<◌, false, ◌↔◌, List, map, Some, None, Option, slice_index_or}
 use Rattle.format.specs.declared.ids.BindingId.{BindingId}
 use Rattle.format.specs.declared.ids.BlockId.{BlockId}
 use Rattle.format.specs.declared.ids.LabelId.{LabelId}
-use Rattle.format.specs.declared.kind.NodeKind.{NodeKind}
 use Rattle.format.specs.declared.kind.NodeKind.TheVariants.{And, If, Let, Block, Closure, Bind, Patterns, LetStatement, Arm, Body}
 use Rattle.reach.specs.Shape.{Shape}
 use Rattle.reach.specs.Visit.{State}
 use Rattle.format.specs.declared.ids.ScopeId.{ScopeId}
-use Rattle.reach.specs.Tables.{kind_of, kid, kids, NodeOf}
+use Rattle.reach.specs.Tables.{kind_of, kid, NodeOf}
 use Rattle.reach.specs.Law.{shuts, Among, Met, bound}
 
 -- the even numbers

@@ -1,5 +1,5 @@
 -- The rules and the definition of a look-up agree.
-use Rattle.std.proofs.Common.{◌≡◌, ℕ, zero, suc, ◌-◌, ◌<◌, ◌≤◌, Bool, true, false, cond, eqb, ◌⊎◌, List, length, get_or, Some, None, Option, unwrap_or, sym, refl, ap, ◌∙◌, subst, inl, inr, arith}
+use Rattle.std.proofs.Common.{◌≡◌, ℕ, zero, suc, ◌-◌, ◌≤◌, ◌⊎◌, length, Some, None, Option, unwrap_or, sym, refl, ap, ◌∙◌, subst, inl, inr, arith}
 use Rattle.std.proofs.lemmas.Bool.{cases_eq, cases_lt, cond-true, cond-false, eq-eqb, ne_eqb}
 use Rattle.std.specs.Option.{option_map}
 use Rattle.format.specs.declared.ids.Name.{Name}
@@ -14,11 +14,11 @@ use Rattle.reach.specs.declared.data.ScopeKind.TheVariants as K
 use Rattle.resolve.specs.declared.context.Context.{Context}
 use Rattle.resolve.specs.declared.resolution.Resolution.{Resolution}
 use Rattle.resolve.specs.declared.resolution.Resolution.TheVariants as R
-use Rattle.resolve.specs.Outward.{Surroundings, along, called_in, chain, crossed, in_block, item_in, local_among, outside, passed, scope_answer, scope_at}
-use Rattle.resolve.specs.Hits.{Stands, FirstEntry, NoEntry, HasItem, NoItem, Defines, Outside, Finds, local, item, past_definition, onward, left, MeansOne, ParentsBelow}
+use Rattle.resolve.specs.Outward.{Surroundings, called_in, crossed, in_block, item_in, local_among, passed, scope_answer, scope_at}
+use Rattle.resolve.specs.Hits.{Stands, NoEntry, HasItem, NoItem, Defines, Finds, local, item, past_definition, onward, left, MeansOne, ParentsBelow}
 use Rattle.resolve.proofs.Along.{from, from_scope, from_end}
 use Rattle.resolve.proofs.Frames.{never, outside_by_rules, rules_outside}
-use Rattle.resolve.proofs.Scans.{LocalHit, none_answers, one_answers, no_local, the_local}
+use Rattle.resolve.proofs.Scans.{none_answers, one_answers, no_local, the_local}
 
 module _ (W : ItemTables) (X : ExpansionTables) (T : Surroundings) (n : Name) (s : ScopeId) where
   abbrev kind : ScopeKind

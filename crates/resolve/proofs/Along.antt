@@ -1,9 +1,8 @@
 -- One step of a look-up along the chain.
-use Rattle.std.proofs.Common.{◌≡◌, ◌-◌, ◌<◌, ◌≤◌, List, [], length, get_or, Some, None, Option, unwrap_or, sym, refl, ap, ◌∙◌}
+use Rattle.std.proofs.Common.{◌≡◌, ◌<◌, ◌≤◌, length, Some, None, Option, unwrap_or, sym, ap, ◌∙◌}
 use Rattle.format.specs.declared.ids.Name.{Name}
 use Rattle.format.specs.declared.ids.ScopeId.{ScopeId}
 use Rattle.host.specs.Meaning.{ItemTables, ExpansionTables}
-use Rattle.reach.specs.Bare.{Scope}
 use Rattle.reach.specs.Blank.{parent_of}
 use Rattle.resolve.specs.declared.context.Context.{Context}
 use Rattle.resolve.specs.declared.resolution.Resolution.{Resolution}

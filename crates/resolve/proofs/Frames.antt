@@ -1,20 +1,18 @@
 -- What the frames and the module give: the rules and the definition agree.
-use Rattle.std.proofs.Common.{◌≡◌, ℕ, zero, suc, ◌-◌, ◌<◌, ◌≤◌, Bool, true, false, cond, eqb, ◌⊎◌, List, reverse, length, get_or, take, Some, None, Option, unwrap_or, sym, refl, ap, ◌∙◌, subst, inl, inr, arith}
+use Rattle.std.proofs.Common.{◌≡◌, ℕ, zero, suc, ◌-◌, ◌<◌, ◌≤◌, List, reverse, length, get_or, take, Some, None, Option, unwrap_or, sym, refl, ap, ◌∙◌, subst, inl, inr, arith}
 use Rattle.std.proofs.lemmas.List.{take_all}
 use Rattle.std.proofs.lemmas.Bool.{cases_eq, cases_lt, cond-true, cond-false, eq-eqb, ne_eqb}
 use Rattle.std.specs.Option.{option_map}
 use Rattle.format.specs.declared.ids.Name.{Name}
-use Rattle.format.specs.declared.ids.OwnerId.{OwnerId}
 use Rattle.host.specs.First.{first, or_else}
 use Rattle.host.specs.Meaning.{ItemTables}
-use Rattle.host.specs.declared.item.ConstParamId.{ConstParamId}
 use Rattle.host.specs.declared.item.Item.{Item}
 use Rattle.host.proofs.First.{back_step}
 use Rattle.sheet.specs.declared.node.Frame.{Frame}
 use Rattle.sheet.specs.declared.node.Frame.TheVariants as F
 use Rattle.resolve.specs.declared.resolution.Resolution.{Resolution}
 use Rattle.resolve.specs.declared.resolution.Resolution.TheVariants as R
-use Rattle.resolve.specs.Outward.{const_param_of, frame_answer, in_block, in_module, item_at, no_frame, outside}
+use Rattle.resolve.specs.Outward.{frame_answer, in_block, in_module, item_at, no_frame, outside}
 use Rattle.resolve.specs.Hits.{Gives, impl_itself, impl_parameter, parameter, block_item, SilentFrom, Outside, in_frame, in_the_module, nowhere}
 
 pub never : {A Y : Type 0} (y : Y) (o : Option Y) → o ≡ None → o ≡ Some y → A

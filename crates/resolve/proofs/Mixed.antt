@@ -1,5 +1,5 @@
 -- Hygiene of names that a macro wrote.
-use Rattle.std.proofs.Common.{◌≡◌, ℕ, List, Some, None, Option, sym, refl, ap, ◌∙◌, subst, arith}
+use Rattle.std.proofs.Common.{◌≡◌, ℕ, List, Some, Option, refl, ap, ◌∙◌, subst, arith}
 use Rattle.format.specs.declared.ids.BindingId.{BindingId}
 use Rattle.format.specs.declared.ids.HygieneId.{HygieneId}
 use Rattle.format.specs.declared.ids.Name.{Name}

@@ -1,15 +1,13 @@
 -- The steps of a look-up on the tables of a tree, as if a binding had another name.
-use Rattle.std.proofs.Common.{◌≡◌, ◌-◌, ◌<◌, ◌≤◌, List, map, length, get_or, IfOk, Some, None, Ok, Err, Option, Result, sym, refl, ap, ◌∙◌, subst, arith}
+use Rattle.std.proofs.Common.{◌≡◌, ◌-◌, ◌<◌, IfOk, Some, None, Ok, Err, Option, Result, sym, ap, ◌∙◌, subst, arith}
 use Rattle.std.proofs.lemmas.List.{map-id}
 use Rattle.format.specs.declared.ids.Name.{Name}
 use Rattle.format.specs.declared.ids.ScopeId.{ScopeId}
 use Rattle.host.specs.Meaning.{ItemTables, ExpansionTables}
 use Rattle.reach.specs.Bare.{Scope}
-use Rattle.reach.specs.Blank.{bare_scope, no_scope, parent_of}
-use Rattle.scope.specs.Queries.{IsScope, all_entries, data_of}
-use Rattle.scope.specs.Told.{told}
+use Rattle.reach.specs.Blank.{bare_scope, parent_of}
+use Rattle.scope.specs.Queries.{IsScope, data_of}
 use Rattle.reach.specs.declared.data.ScopeData.{ScopeData}
-use Rattle.reach.specs.declared.data.ScopeKind.{ScopeKind}
 use Rattle.scope.specs.declared.tables.ExprScopes.{ExprScopes}
 use Rattle.sheet.specs.Held.{frames_of}
 use Rattle.sheet.specs.declared.body.Body.{Body}
@@ -21,7 +19,7 @@ use Rattle.resolve.specs.declared.sought.Sought.{Sought}
 use Rattle.resolve.specs.Hits.{Finds}
 use Rattle.resolve.specs.Uses.{ForPlace}
 use Rattle.resolve.proofs.Agree.{found_by_rules}
-use Rattle.resolve.specs.Outward.{Surroundings, begun, crossed, outside, resolved, scope_answer, scope_at, supposed_entry, supposing, surroundings_of}
+use Rattle.resolve.specs.Outward.{Surroundings, begun, crossed, outside, resolved, scope_answer, scope_at, supposing, surroundings_of}
 use Rattle.resolve.proofs.Along.{from, Stands, from_hit, from_miss, from_end}
 use Rattle.resolve.proofs.Chains.{told_below, told_length, told_scope}
 

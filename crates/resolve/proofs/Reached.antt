@@ -1,5 +1,5 @@
 -- A local that is found reaches the use.
-use Rattle.std.proofs.Common.{◌≡◌, ℕ, zero, suc, ◌-◌, ◌<◌, cond, eqb, ◌⊎◌, List, [], ◌∷◌, map, length, get_or, IfOk, Some, None, Ok, Err, Option, Result, unwrap_or, sym, refl, ap, ◌∙◌, subst, inl, inr, arith}
+use Rattle.std.proofs.Common.{◌≡◌, ℕ, zero, suc, ◌-◌, ◌<◌, List, [], ◌∷◌, map, length, get_or, IfOk, Some, None, Ok, Err, Option, Result, unwrap_or, sym, refl, ap, ◌∙◌, subst, inl, inr, arith}
 use Rattle.std.proofs.lemmas.Bool.{cases_eq, cond-true, cond-false, eq-eqb, ne_eqb}
 use Rattle.format.specs.declared.ids.BindingId.{BindingId}
 use Rattle.format.specs.declared.ids.HygieneId.{HygieneId}
@@ -7,7 +7,7 @@ use Rattle.format.specs.declared.ids.Name.{Name}
 use Rattle.format.specs.declared.ids.NodeId.{NodeId}
 use Rattle.format.specs.declared.ids.ScopeId.{ScopeId}
 use Rattle.host.specs.Meaning.{ItemTables, ExpansionTables}
-use Rattle.reach.specs.Blank.{bare_entry, no_scope}
+use Rattle.reach.specs.Blank.{bare_entry}
 use Rattle.reach.specs.Held.{shape_of}
 use Rattle.reach.specs.Law.{Among, Holds, OnChain, bound, held}
 use Rattle.reach.specs.Named.{no_entry}
@@ -27,7 +27,7 @@ use Rattle.resolve.specs.declared.resolution.Resolution.{Resolution}
 use Rattle.resolve.specs.declared.resolution.Resolution.TheVariants as R
 use Rattle.resolve.specs.declared.sought.Sought.{Sought}
 use Rattle.resolve.specs.Outward.{Surroundings, begun, resolved, scope_at, surroundings_of}
-use Rattle.resolve.specs.Hits.{Answers, Finds, local, item, past_definition, onward, left}
+use Rattle.resolve.specs.Hits.{Finds, local, item, past_definition, onward, left}
 use Rattle.resolve.specs.Reaching.{Reached}
 use Rattle.resolve.specs.Uses.{ForUse, asked, asked_from, sought_at, use_of}
 use Rattle.resolve.proofs.Agree.{found_by_rules}

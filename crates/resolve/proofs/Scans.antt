@@ -1,5 +1,5 @@
 -- The first entry of a scope that passes a test, by its place among all entries.
-use Rattle.std.proofs.Common.{◌≡◌, ℕ, zero, suc, ◌<◌, ◌≤◌, Bool, true, false, cond, ◌&&◌, eqb, ◌⊎◌, List, [], ◌∷◌, length, get_or, Some, None, Option, sym, refl, ap, ◌∙◌, inl, inr, arith}
+use Rattle.std.proofs.Common.{◌≡◌, ℕ, zero, suc, ◌<◌, Bool, true, false, ◌&&◌, eqb, ◌⊎◌, List, [], ◌∷◌, length, get_or, Some, None, Option, sym, refl, ap, ◌∙◌, inl, inr, arith}
 use Rattle.std.proofs.lemmas.Bool.{and_parts, cases_Bool, cases_eq, cases_lt, cond-true, cond-false, eq-eqb, eqb-true, ne_eqb}
 use Rattle.std.specs.Option.{option_map}
 use Rattle.format.specs.declared.ids.BindingId.{BindingId}
@@ -8,7 +8,6 @@ use Rattle.format.specs.declared.ids.Name.{Name}
 use Rattle.format.specs.declared.ids.ScopeId.{ScopeId}
 use Rattle.reach.specs.Named.{no_entry}
 use Rattle.scope.specs.Queries.{entries_of, first_that}
-use Rattle.reach.specs.Ranges.{home_of}
 use Rattle.reach.specs.declared.data.ScopeEntry.{ScopeEntry}
 use Rattle.resolve.specs.declared.resolution.Resolution.{Resolution}
 use Rattle.resolve.specs.declared.resolution.Resolution.TheVariants as R

@@ -6,7 +6,6 @@ use Rattle.format.specs.declared.ids.Name.{Name}
 use Rattle.format.specs.declared.ids.ScopeId.{ScopeId}
 use Rattle.scope.specs.Queries.{entries_of, first_that}
 use Rattle.reach.specs.declared.data.ScopeEntry.{ScopeEntry}
-use Rattle.resolve.specs.declared.resolution.Resolution.{Resolution}
 use Rattle.resolve.specs.declared.resolution.Resolution.TheVariants as R
 use Rattle.resolve.specs.declared.sought.Rename.{Rename}
 use Rattle.resolve.specs.Outward.{answers_to, local_among, supposed_entry}

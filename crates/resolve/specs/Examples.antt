@@ -2,7 +2,6 @@
 use Rattle.std.specs.Prelude.{◌≡◌, ℕ, cond, List, [], ◌∷◌, map, Some, None, Option, ◌==◌, slice_index_or}
 use Rattle.std.proofs.Common.{lit<, lit≤}
 use Rattle.format.specs.declared.ids.NodeId.{NodeId}
-use Rattle.format.specs.declared.ids.ScopeId.{ScopeId}
 use Rattle.format.specs.declared.kind.NodeKind.{NodeKind}
 use Rattle.format.specs.declared.kind.NodeKind.TheVariants.{Bind, Block, Body, LetStatement, MacroDef, Use}
 use Rattle.host.specs.Meaning.{ItemTables, ExpansionTables, without_macros}
@@ -15,7 +14,6 @@ use Rattle.reach.specs.Visit.{built}
 use Rattle.reach.specs.declared.data.ScopeEntry.{ScopeEntry}
 use Rattle.sheet.specs.declared.node.Binding.{Binding}
 use Rattle.sheet.specs.declared.node.Node.{Node}
-use Rattle.resolve.specs.declared.resolution.Resolution.{Resolution}
 use Rattle.resolve.specs.declared.resolution.Resolution.TheVariants as R
 use Rattle.resolve.specs.declared.sought.Sought.{Sought}
 use Rattle.resolve.specs.Outward.{Surroundings, resolved, supposing}

@@ -9,7 +9,6 @@ use Rattle.format.specs.declared.ids.OwnerId.{OwnerId}
 use Rattle.format.specs.declared.ids.ScopeId.{ScopeId}
 use Rattle.host.specs.First.{first, or_else}
 use Rattle.host.specs.Meaning.{ItemTables, ExpansionTables}
-use Rattle.host.specs.declared.item.Item.{Item}
 use Rattle.host.specs.declared.item.Outer.{Outer}
 use Rattle.host.specs.declared.item.PlaceId.{PlaceId}
 use Rattle.reach.specs.Bare.{Scope}

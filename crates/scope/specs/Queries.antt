@@ -1,5 +1,5 @@
 -- What the questions about a scope tree are answered with.
-use Rattle.std.specs.Prelude.{◌≡◌, ℕ, zero, suc, ◌+◌, ◌-◌, ◌<◌, ◌≤◌, Bool, cond, ◌&&◌, List, [], ◌∷◌, take, Some, None, Option, Result, MatchResult, ◌==◌, nat_le, slice_index_or}
+use Rattle.std.specs.Prelude.{◌≡◌, ℕ, zero, suc, ◌-◌, ◌<◌, ◌≤◌, Bool, cond, ◌&&◌, List, [], ◌∷◌, take, Some, None, Option, Result, MatchResult, ◌==◌, nat_le, slice_index_or}
 use Rattle.format.specs.declared.ids.BlockId.{BlockId}
 use Rattle.format.specs.declared.ids.LabelId.{LabelId}
 use Rattle.format.specs.declared.ids.MacroId.{MacroId}

@@ -1,8 +1,7 @@
 -- The laws of a body, from what was read.
-use Rattle.std.proofs.Common.{◌≡◌, ℕ, ◌<◌, ◌≤◌, Bool, true, false, cond, not, eqb, List, map, length, get_or, unwrap_or, sym, refl, ap, ◌∙◌, subst, arith}
+use Rattle.std.proofs.Common.{◌≡◌, ℕ, ◌<◌, true, cond, eqb, List, length, get_or, unwrap_or, sym, refl, ap, ◌∙◌, subst, arith}
 use Rattle.std.proofs.lemmas.Bool.{ne_eqb, and_from, not_from_false, cond_both}
 use Rattle.format.specs.declared.fault.Part.TheVariants as P
-use Rattle.format.specs.declared.kind.NodeKind.{NodeKind}
 use Rattle.format.specs.declared.kind.NodeKind.TheVariants as K
 use Rattle.format.specs.declared.kind.NodeRecord.{NodeRecord}
 use Rattle.format.specs.Kinds.{count_suits, named}
@@ -13,9 +12,8 @@ use Rattle.sheet.specs.declared.node.Frame.{Frame}
 use Rattle.sheet.specs.declared.node.Frame.TheVariants as F
 use Rattle.sheet.specs.declared.node.Node.{Node}
 use Rattle.sheet.specs.Lawful.{AllNamed, AllCounted, AllBindingsNamed, AllFramesNumbered, name_fits, number_of_frame}
-use Rattle.sheet.specs.Records.{record_at, Said, kind_said, node_from, binding_at, GoodBinding, frame_from, frame_at, frame_code, frame_number, GoodFrame, nodes_in, bindings_in, frames_in}
-use Rattle.sheet.specs.Shape.{Shape, shape, blank, node_at, kind_at}
-use Rattle.sheet.specs.Tables.{tabulated}
+use Rattle.sheet.specs.Records.{record_at, Said, kind_said, node_from, binding_at, frame_from, frame_at, frame_code, frame_number, nodes_in, bindings_in, frames_in}
+use Rattle.sheet.specs.Shape.{shape, blank, node_at, kind_at}
 use Rattle.sheet.proofs.Listed.{length-tabulated, get_or-tabulated}
 use Rattle.sheet.proofs.Load.{AllSaid, GoodBindings, GoodFrames}
 

@@ -1,5 +1,5 @@
 -- From the steps of reading to the first cause of a refusal.
-use Rattle.std.proofs.Common.{◌≡◌, ℕ, zero, suc, ◌+◌, ◌*◌, ◌/◌, ◌<◌, ◌≤◌, ◌⊎◌, List, [], length, get_or, take, sym, refl, ap, ◌∙◌, subst, inl, inr, ⊎_elim, arith}
+use Rattle.std.proofs.Common.{◌≡◌, ℕ, zero, suc, ◌+◌, ◌/◌, ◌<◌, ◌≤◌, ◌⊎◌, List, length, sym, refl, ap, ◌∙◌, subst, inl, inr, ⊎_elim, arith}
 use Rattle.format.specs.declared.fault.Fault.{Fault}
 use Rattle.format.specs.declared.fault.Part.{Part}
 use Rattle.format.specs.declared.fault.Part.TheVariants as P
@@ -11,12 +11,12 @@ use Rattle.format.specs.Faults.{refusal_number, part_number, Before, First, None
 use Rattle.format.specs.Framing.{Framing}
 use Rattle.format.specs.Layout.{count_of, bytes_in}
 use Rattle.format.specs.Sections.{bytes_of, Holds, Framed}
-use Rattle.format.proofs.Firsts.{Never, ClearTo, clear_more, clear_all, FirstPlace, first_from}
+use Rattle.format.proofs.Firsts.{ClearTo, clear_more, clear_all, FirstPlace, first_from}
 use Rattle.sheet.specs.declared.node.Node.{Node}
 use Rattle.sheet.specs.declared.table.Table.{Table}
 use Rattle.sheet.specs.Causes.{Applies, Breaks}
 use Rattle.sheet.specs.Records.{record_at, Said, begins, node_from, child_from, numbers, GoodBinding, GoodFrame, nodes_in, children_in, shape_in}
-use Rattle.sheet.specs.Shape.{Shape, shape, node_at, blank, total}
+use Rattle.sheet.specs.Shape.{Shape, shape, blank, total}
 use Rattle.sheet.specs.Steps.{FirstBroken, TreeFault}
 use Rattle.sheet.specs.Tables.{listed, tabulated}
 use Rattle.sheet.specs.Tree.{AddsUp, LaidOut, GoodNode, GoodTree, LetInPlace}

@@ -1,13 +1,13 @@
 -- From the rules at each node to the laws of the whole tree.
-use Rattle.std.proofs.Common.{◌≡◌, ℕ, zero, suc, ◌+◌, ◌-◌, ◌<◌, ◌≤◌, true, cond, ltb, ◌⊎◌, List, [], ◌∷◌, length, get_or, take, sym, refl, ap, ◌∙◌, subst, ⊎_elim, add-one, arith}
+use Rattle.std.proofs.Common.{◌≡◌, ℕ, zero, suc, ◌+◌, ◌-◌, ◌<◌, ◌≤◌, true, ltb, List, [], ◌∷◌, length, get_or, take, sym, refl, ap, ◌∙◌, subst, ⊎_elim, arith}
 use Rattle.std.proofs.lemmas.List.{take_all}
 use Rattle.std.proofs.lemmas.Bool.{cases_eq, cases_lt, ltb-true, cond_both}
 use Rattle.format.specs.Kinds.{admits, slot_at}
 use Rattle.sheet.specs.declared.node.Node.{Node}
-use Rattle.sheet.specs.Lawful.{AllAdmitted, AllLower, BodyLast, Once, admitted_at}
+use Rattle.sheet.specs.Lawful.{AllAdmitted, AllLower, BodyLast, Once}
 use Rattle.sheet.specs.Shape.{Shape, blank, node_at, kind_at, child_at, sort_at, times, total}
 use Rattle.sheet.specs.Steps.{Falls}
-use Rattle.sheet.specs.Tree.{AddsUp, LaidOut, GoodChild, GoodTree}
+use Rattle.sheet.specs.Tree.{LaidOut, GoodChild, GoodTree}
 use Rattle.sheet.proofs.Times.{times_same, times_other}
 
 -- child q is the child at place j of node i

@@ -1,7 +1,6 @@
 -- When a body sheet is refused, for what and where.
 use Rattle.std.specs.Prelude.{◌≡◌, ℕ, ◌+◌, ◌<◌, ◌⊎◌, List}
 use Rattle.format.specs.declared.fault.Part.TheVariants as P
-use Rattle.format.specs.declared.fault.Refusal.{Refusal}
 use Rattle.format.specs.declared.fault.Refusal.TheVariants as R
 use Rattle.format.specs.Faults.{Causes}
 use Rattle.format.specs.Framing.{Framing}

@@ -1,7 +1,6 @@
 -- What a body holds, as lists.
 use Rattle.std.specs.Prelude.{◌≡◌, ℕ, List, take, drop, Option, slice_index_or}
 use Rattle.format.specs.declared.ids.NodeId.{NodeId}
-use Rattle.format.specs.declared.fault.Part.TheVariants as P
 use Rattle.format.specs.Faults.{NoneApply}
 use Rattle.sheet.specs.declared.body.Body.{Body}
 use Rattle.sheet.specs.declared.node.Binding.{Binding}

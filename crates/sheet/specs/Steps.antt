@@ -5,7 +5,7 @@ use Rattle.format.specs.declared.fault.Part.{Part}
 use Rattle.format.specs.declared.fault.Refusal.{Refusal}
 use Rattle.format.specs.declared.kind.NodeKind.{NodeKind}
 use Rattle.format.specs.declared.kind.NodeKind.TheVariants as K
-use Rattle.sheet.specs.Shape.{Shape, node_at, kind_at, times}
+use Rattle.sheet.specs.Shape.{Shape, kind_at, times}
 use Rattle.format.specs.declared.fault.Part.TheVariants as P
 use Rattle.format.specs.declared.fault.Refusal.TheVariants as R
 use Rattle.sheet.specs.Tree.{AddsUp, Child, GoodNode, InCondition}

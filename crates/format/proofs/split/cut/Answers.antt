@@ -1,4 +1,4 @@
-use Rattle.std.proofs.Common.{refl, arith, rules}
+use Rattle.std.proofs.Common.{rules}
 use Rattle.format.specs.Layout.{end_from, part_from}
 use Rattle.format.proofs.split.cut.Goals as goal
 

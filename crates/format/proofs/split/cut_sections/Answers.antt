@@ -1,8 +1,8 @@
-use Rattle.std.proofs.Common.{◌≡◌, ◌+◌, ◌<◌, ◌≤◌, length, sym, refl, ap, ◌∙◌, inl, inr, arith}
+use Rattle.std.proofs.Common.{◌≡◌, ◌+◌, length, sym, refl, inl, arith}
 use Rattle.std.proofs.lemmas.Result.{err_from_is_err_and}
 use Rattle.format.specs.declared.fault.Part.TheVariants as P
 use Rattle.format.specs.declared.section.Section.TheVariants as X
-use Rattle.format.specs.Layout.{u32at, start_of, end_of}
+use Rattle.format.specs.Layout.{u32at, start_of}
 use Rattle.format.proofs.Ends.{start_nodes, start_children, start_bindings, start_frames, cut_at, past_at, holds, first_past, none_differs, next_start}
 use Rattle.format.proofs.split.cut_sections.Goals as goal
 

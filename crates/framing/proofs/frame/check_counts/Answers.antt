@@ -1,11 +1,11 @@
-use Rattle.std.proofs.Common.{◌≡◌, ℕ, ◌<◌, ◌≤◌, length, get_or, sym, refl, ap, ◌∙◌, subst, arith, below_more}
+use Rattle.std.proofs.Common.{ℕ, ◌<◌, ◌≤◌, length, get_or, sym, ap, subst, arith, below_more}
 use Rattle.std.proofs.lemmas.Result.{err_from_is_err_and}
 use Rattle.framing.specs.declared.fault.Part.TheVariants as P
 use Rattle.framing.specs.declared.fault.Refusal.TheVariants as R
 use Rattle.framing.specs.Faults.{part_number}
 use Rattle.framing.specs.Framing.{CountFits}
 use Rattle.framing.specs.Layout.{last_end}
-use Rattle.framing.specs.Plans.{format_of, part_at, plan_of}
+use Rattle.framing.specs.Plans.{format_of}
 use Rattle.framing.specs.Stages.{NoRecord}
 use Rattle.framing.proofs.Framed.{count_first}
 use Rattle.framing.proofs.Starts.{placed}

@@ -1,9 +1,9 @@
-use Rattle.std.proofs.Common.{◌≡◌, ◌+◌, ◌<◌, ◌≤◌, length, get_or, sym, refl, ap, ◌∙◌, subst, inl, inr, arith}
+use Rattle.std.proofs.Common.{◌≡◌, ◌+◌, ◌<◌, ◌≤◌, length, get_or, sym, ap, ◌∙◌, subst, arith}
 use Rattle.std.proofs.lemmas.Result.{err_from_is_err_and}
 use Rattle.framing.specs.declared.fault.Part.TheVariants as P
 use Rattle.framing.specs.declared.fault.Refusal.TheVariants as R
-use Rattle.framing.specs.Layout.{end_from, last_end, start_at, u32at}
-use Rattle.framing.specs.Plans.{plan_of, width_of}
+use Rattle.framing.specs.Layout.{end_from, start_at, u32at}
+use Rattle.framing.specs.Plans.{width_of}
 use Rattle.framing.specs.Stages.{NoRecord}
 use Rattle.framing.proofs.Framed.{length_first, whole_first}
 use Rattle.framing.proofs.Starts.{end_reached, start_first, start_more}

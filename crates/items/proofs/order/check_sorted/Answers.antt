@@ -1,9 +1,9 @@
-use Rattle.std.proofs.Common.{List, map, subst, inl, inr}
+use Rattle.std.proofs.Common.{map, subst, inl, inr}
 use Rattle.std.proofs.lemmas.Result.{err_from_is_err_and}
 use Rattle.framing.specs.declared.fault.Part.TheVariants as P
 use Rattle.item_rows.specs.Keys.{Rising}
 use Rattle.item_rows.specs.Rows.{const_key, expansion_key, item_key}
-use Rattle.items.specs.Steps.{FirstUnsorted, const_keys, expansion_keys, item_keys}
+use Rattle.items.specs.Steps.{FirstUnsorted, const_keys, item_keys}
 use Rattle.items.proofs.order.check_sorted.Goals as goal
 use Rattle.items.proofs.order.check_sorted.Goals.{In_ok-check_order, In_ok-check_order-2}
 

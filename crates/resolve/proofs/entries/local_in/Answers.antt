@@ -1,4 +1,4 @@
-use Rattle.std.proofs.Common.{◌≡◌, sym, ap, ◌∙◌}
+use Rattle.std.proofs.Common.{sym, ap, ◌∙◌}
 use Rattle.std.specs.Option.{option_map}
 use Rattle.scope.specs.Queries.{all_entries}
 use Rattle.resolve.specs.declared.resolution.Resolution.TheVariants as R

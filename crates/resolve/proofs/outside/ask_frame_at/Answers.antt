@@ -1,4 +1,4 @@
-use Rattle.std.proofs.Common.{◌≡◌, ℕ, sym, ap, ◌∙◌, arith}
+use Rattle.std.proofs.Common.{sym, ap, ◌∙◌, arith}
 use Rattle.sheet.specs.Held.{frames_of}
 use Rattle.sheet.proofs.Listed.{found_some, found_none}
 use Rattle.resolve.specs.Outward.{frame_answer, no_frame}

@@ -1,4 +1,4 @@
-use Rattle.std.proofs.Common.{◌≡◌, ◌-◌, ◌<◌, ◌≤◌, reverse, length, take, sym, ap, ◌∙◌, arith}
+use Rattle.std.proofs.Common.{◌≡◌, ◌-◌, ◌<◌, reverse, length, take, sym, ap, ◌∙◌, arith}
 use Rattle.host.specs.First.{first}
 use Rattle.host.proofs.First.{back_hit, back_miss, back_start}
 use Rattle.sheet.specs.Held.{frames_of}

@@ -1,6 +1,5 @@
-use Rattle.std.proofs.Common.{◌≡◌, ap, ◌∙◌}
-use Rattle.host.specs.Meaning.{ItemTables, ExpansionTables}
-use Rattle.resolve.specs.Outward.{along, chain, supposing, surroundings_of}
+use Rattle.std.proofs.Common.{ap, ◌∙◌}
+use Rattle.resolve.specs.Outward.{supposing, surroundings_of}
 use Rattle.resolve.proofs.OnTrees.{outward_less, tree_hit, tree_miss, tree_end}
 use Rattle.resolve.proofs.Along.{from}
 use Rattle.resolve.proofs.outward.look_outward.Goals as goal

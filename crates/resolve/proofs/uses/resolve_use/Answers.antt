@@ -1,4 +1,4 @@
-use Rattle.std.proofs.Common.{◌≡◌, Some, Ok, Err, sym, ap, ◌∙◌}
+use Rattle.std.proofs.Common.{◌≡◌, Some, Ok, sym, ap, ◌∙◌}
 use Rattle.resolve.specs.Outward.{Surroundings, resolved, surroundings_of}
 use Rattle.resolve.specs.Uses.{ForUse}
 use Rattle.resolve.proofs.OnTrees.{supposing_none}

@@ -1,4 +1,4 @@
-use Rattle.std.proofs.Common.{◌≡◌, ◌/◌, length, sym, ◌∙◌, arith}
+use Rattle.std.proofs.Common.{◌/◌, length, sym, ◌∙◌, arith}
 use Rattle.sheet.specs.Records.{child_from}
 use Rattle.sheet.proofs.Listed.{get_or-tabulated}
 use Rattle.sheet.proofs.children.child_number.Goals as goal

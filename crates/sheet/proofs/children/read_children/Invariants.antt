@@ -1,4 +1,4 @@
-use Rattle.std.proofs.Common.{◌≡◌, ℕ, ◌<◌, map}
+use Rattle.std.proofs.Common.{◌≡◌, map}
 use Rattle.format.specs.Ids.{number_of}
 use Rattle.sheet.specs.Records.{child_from}
 use Rattle.sheet.specs.Tables.{listed, tabulated}

@@ -1,4 +1,4 @@
-use Rattle.std.proofs.Common.{◌≡◌, ℕ, ◌+◌, ◌/◌, ◌<◌, List, length, sym, refl, ap, ◌∙◌, subst, arith, length-set}
+use Rattle.std.proofs.Common.{◌≡◌, ℕ, ◌+◌, ◌/◌, ◌<◌, List, length, sym, refl, subst, arith, length-set}
 use Rattle.sheet.specs.Records.{child_from, numbers}
 use Rattle.sheet.specs.Steps.{Claims}
 use Rattle.sheet.proofs.Listed.{length-tabulated}

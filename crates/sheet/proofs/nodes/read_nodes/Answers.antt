@@ -1,6 +1,6 @@
-use Rattle.std.proofs.Common.{◌≡◌, length, sym, refl, ap, ◌∙◌, subst, arith, below_more}
+use Rattle.std.proofs.Common.{length, sym, ap, ◌∙◌, subst, arith, below_more}
 use Rattle.std.proofs.lemmas.Result.{err_from_is_err_and}
-use Rattle.sheet.specs.Records.{record_at, Said, begins, node_from}
+use Rattle.sheet.specs.Records.{record_at, Said, node_from}
 use Rattle.sheet.proofs.Counts.{begins_none, begins_more, node_read}
 use Rattle.sheet.proofs.Listed.{tabulated_none, length-tabulated, pushed}
 use Rattle.sheet.proofs.nodes.read_nodes.Goals as goal

@@ -1,4 +1,4 @@
-use Rattle.std.proofs.Common.{◌≡◌, ◌+◌, ap, ◌∙◌, below_more}
+use Rattle.std.proofs.Common.{◌+◌, ap, ◌∙◌, below_more}
 use Rattle.std.proofs.lemmas.Bool.{both_ways}
 use Rattle.sheet.specs.Records.{numbers}
 use Rattle.sheet.specs.Shape.{blank, shape}

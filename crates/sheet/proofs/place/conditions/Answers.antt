@@ -1,4 +1,4 @@
-use Rattle.std.proofs.Common.{◌≡◌, ◌-◌, false, length, replicate, sym, refl, ap, ◌∙◌, subst, arith}
+use Rattle.std.proofs.Common.{◌-◌, false, replicate, sym, refl, subst, arith}
 use Rattle.sheet.specs.Records.{numbers}
 use Rattle.sheet.specs.Shape.{shape}
 use Rattle.sheet.specs.Steps.{MarkedFrom}

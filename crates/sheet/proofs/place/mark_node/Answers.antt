@@ -1,10 +1,9 @@
-use Rattle.std.proofs.Common.{◌≡◌, ℕ, ◌+◌, ◌<◌, Bool, true, List, length, get_or, sym, refl, ap, ◌∙◌, subst, arith, length-set}
+use Rattle.std.proofs.Common.{◌≡◌, ◌+◌, ◌<◌, Bool, List, length, sym, ap, subst, arith, length-set}
 use Rattle.std.proofs.lemmas.Bool.{both_ways}
 use Rattle.sheet.specs.Records.{numbers}
 use Rattle.sheet.specs.Shape.{blank, shape}
 use Rattle.sheet.specs.Steps.{Marked}
 use Rattle.sheet.specs.Tables.{listed}
-use Rattle.sheet.specs.Tree.{Child}
 use Rattle.sheet.proofs.Listed.{listed_few}
 use Rattle.sheet.proofs.Marks.{marks_keep, marks_set, open_is}
 use Rattle.sheet.proofs.Rules.{child_is}

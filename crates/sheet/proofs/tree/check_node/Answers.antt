@@ -1,8 +1,8 @@
-use Rattle.std.proofs.Common.{◌≡◌, ◌+◌, ◌/◌, ◌<◌, eqb, length, get_or, sym, refl, ap, ◌∙◌, subst, arith}
+use Rattle.std.proofs.Common.{◌+◌, ◌/◌, ◌<◌, eqb, length, get_or, sym, refl, ap, ◌∙◌, subst, arith}
 use Rattle.format.specs.declared.kind.Sort.TheVariants as S
 use Rattle.format.specs.Kinds.{same_sort}
 use Rattle.sheet.specs.Records.{child_from, numbers}
-use Rattle.sheet.specs.Shape.{blank, shape, times}
+use Rattle.sheet.specs.Shape.{blank, shape}
 use Rattle.sheet.specs.Steps.{FirstClaim}
 use Rattle.sheet.specs.Tables.{listed}
 use Rattle.sheet.proofs.Listed.{length-tabulated, listed_few}

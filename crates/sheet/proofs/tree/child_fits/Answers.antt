@@ -1,4 +1,4 @@
-use Rattle.std.proofs.Common.{◌≡◌, ◌+◌, ◌/◌, ◌<◌, length, get_or, sym, refl, ap, ◌∙◌, subst, arith}
+use Rattle.std.proofs.Common.{◌+◌, ◌/◌, length, get_or, sym, ap, ◌∙◌, subst, arith}
 use Rattle.format.specs.Kinds.{admits, slot_at}
 use Rattle.sheet.specs.Records.{child_from, numbers}
 use Rattle.sheet.specs.Shape.{blank, shape, sort_at}

@@ -1,4 +1,4 @@
-use Rattle.std.proofs.Common.{◌≡◌, ◌-◌, [], length, ap, arith}
+use Rattle.std.proofs.Common.{◌-◌, [], ap, arith}
 use Rattle.sheet.specs.Shape.{blank, shape}
 use Rattle.sheet.specs.Tables.{listed}
 use Rattle.sheet.proofs.Counts.{laid_end}

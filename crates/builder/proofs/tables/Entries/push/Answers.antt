@@ -1,4 +1,4 @@
-use Rattle.std.proofs.Common.{◌≡◌, map, take, refl, ap, ◌∙◌, arith, rules}
+use Rattle.std.proofs.Common.{map, take, refl, ap, ◌∙◌, rules}
 use Rattle.std.proofs.lemmas.List.{map_push, take_more_set}
 use Rattle.reach.specs.Blank.{bare_entry}
 use Rattle.builder.proofs.tables.Entries.push.Goals as goal

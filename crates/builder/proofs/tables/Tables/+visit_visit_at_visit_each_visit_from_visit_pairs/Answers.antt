@@ -1,10 +1,8 @@
-use Rattle.std.proofs.Common.{◌≡◌, ◌+◌, ◌-◌, ◌*◌, ◌≤◌, get_or, drop, Some, None, sym, refl, ap, ◌∙◌, arith, rules}
+use Rattle.std.proofs.Common.{drop, Some, None, refl, ap, ◌∙◌, arith, rules}
 use Rattle.reach.specs.Held.{shape_of}
-use Rattle.reach.specs.Visit.{visit_of, visits, size_of, sizes, total, all, step, skip, size_step}
+use Rattle.reach.specs.Visit.{visits, sizes, step, skip, size_step}
 use Rattle.builder.specs.Told.{told}
-use Rattle.reach.specs.Shape.{node_at}
-use Rattle.reach.proofs.Steps.{by_kind}
-use Rattle.reach.proofs.Fold.{size_is, size_split, all_step, all_none, total_step, pairs_step, each_step, each_none, each_pairs_step, each_pairs_none, below_read, below_done}
+use Rattle.reach.proofs.Fold.{all_step, all_none, total_step, pairs_step, each_step, each_none, each_pairs_step, each_pairs_none, below_read, below_done}
 use Rattle.builder.proofs.tables.Tables.+visit_visit_at_visit_each_visit_from_visit_pairs.Goals as goal
 
 pub visit-returns-in-Leaf : goal.visit-returns-in-Leaf

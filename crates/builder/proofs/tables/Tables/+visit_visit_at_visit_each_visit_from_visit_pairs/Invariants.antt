@@ -1,4 +1,4 @@
-use Rattle.std.proofs.Common.{◌≡◌, ◌+◌, ◌-◌, ◌*◌, ◌<◌, ◌≤◌, drop}
+use Rattle.std.proofs.Common.{◌≡◌, ◌+◌, ◌-◌, ◌*◌, ◌≤◌, drop}
 use Rattle.reach.specs.Held.{shape_of}
 use Rattle.reach.specs.Visit.{visits, sizes, total, all, each, others}
 use Rattle.builder.specs.Told.{told, Inside}

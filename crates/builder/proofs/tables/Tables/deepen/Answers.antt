@@ -1,4 +1,4 @@
-use Rattle.std.proofs.Common.{◌≡◌, ap, rules}
+use Rattle.std.proofs.Common.{ap, rules}
 use Rattle.format.specs.declared.ids.ScopeId.{ScopeId}
 use Rattle.reach.specs.declared.data.Place.{Place}
 use Rattle.reach.specs.Visit.{State, inner}

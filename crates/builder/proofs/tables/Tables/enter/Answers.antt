@@ -1,4 +1,4 @@
-use Rattle.std.proofs.Common.{◌≡◌, ℕ, ◌+◌, ◌-◌, List, get_or, set, sym, refl, ap, ◌∙◌, subst, arith, rules}
+use Rattle.std.proofs.Common.{ℕ, ◌+◌, ◌-◌, List, get_or, set, sym, refl, ap, ◌∙◌, subst, rules}
 use Rattle.reach.specs.declared.data.ScopeData.{ScopeData}
 use Rattle.reach.specs.declared.data.ScopeEntry.{ScopeEntry}
 use Rattle.reach.specs.Blank.{blank_scope, ending}

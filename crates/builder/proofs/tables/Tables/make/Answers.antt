@@ -1,4 +1,4 @@
-use Rattle.std.proofs.Common.{◌≡◌, set, Some, sym, refl, subst, arith, rules}
+use Rattle.std.proofs.Common.{set, Some, sym, subst, arith, rules}
 use Rattle.reach.specs.declared.data.ScopeData.{ScopeData}
 use Rattle.reach.specs.Ranges.{Ended, EndsAfter, Started, StartsBefore}
 use Rattle.reach.specs.Visit.{made}

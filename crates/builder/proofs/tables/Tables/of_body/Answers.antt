@@ -1,24 +1,15 @@
-use Rattle.std.proofs.Common.{◌≡◌, ℕ, ◌-◌, List, length, get_or, take, drop, sym, refl, ap, ◌∙◌, subst, arith}
-use Rattle.std.proofs.lemmas.List.{length-map, length-take}
-use Rattle.sheet.specs.Tables.{listed}
+use Rattle.std.proofs.Common.{◌≡◌, ℕ, ◌-◌, List, get_or, drop, sym, refl, ap, ◌∙◌, subst, arith}
 use Rattle.reach.specs.Bare.{Entry}
-use Rattle.reach.specs.Blank.{bare_entry, bare_scope, blank_scope, no_scope}
+use Rattle.reach.specs.Blank.{blank_scope}
 use Rattle.reach.specs.Held.{shape_of}
 use Rattle.reach.specs.Once.{Once}
 use Rattle.reach.specs.Shape.{node_at}
 use Rattle.reach.specs.Visit.{State, start, first, each, nth, visits, sizes, built, selfed, self_in}
 use Rattle.builder.specs.Told.{tables_of, told}
-use Rattle.reach.specs.Law.{AllRecorded, BlocksHoldNone, OnlyExpressions, ReachIn, TreeLaw}
-use Rattle.reach.proofs.Examples.{examples_hold}
 use Rattle.reach.proofs.Once.{others}
-use Rattle.reach.proofs.Chains.{tree_of_scopes}
 use Rattle.reach.proofs.Fold.{total_more}
 use Rattle.reach.proofs.Laws.{falls_law, tree_law}
 use Rattle.reach.proofs.Ranges.{blanks}
-use Rattle.reach.proofs.Reach.{law, by_bindings, met_once}
-use Rattle.reach.proofs.Record.{recorded}
-use Rattle.reach.proofs.Whole.{blocks_hold_none, only_expressions, root_first}
-use Rattle.reach.proofs.Words.{in_words, stays_below}
 use Rattle.builder.proofs.tables.Tables.of_body.Goals as goal
 
 pub invariant_of-tree : goal.invariant_of-tree

@@ -1,6 +1,5 @@
 -- Each word of the line is what the call that read it says, and each call goes on where the one before ended.
-use Rattle.std.proofs.Common.{◌≡◌, ℕ, List, codes, subst}
-use Rattle.comparison.specs.Counted.{Counted}
+use Rattle.std.proofs.Common.{◌≡◌, ℕ, List, subst}
 use Rattle.comparison.specs.Line.{Word}
 use Rattle.comparison.proofs.counts.Counts.parse.Goals as goal
 

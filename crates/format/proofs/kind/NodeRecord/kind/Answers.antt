@@ -1,5 +1,5 @@
-use Rattle.std.proofs.Common.{◌≡◌, sym, refl, ap, ◌∙◌, rules}
-use Rattle.format.proofs.Codes.{said, says_one}
+use Rattle.std.proofs.Common.{sym, ◌∙◌}
+use Rattle.format.proofs.Codes.{says_one}
 use Rattle.format.proofs.kind.NodeRecord.kind.Goals as goal
 
 pub returns-then-count_fits : goal.returns-then-count_fits

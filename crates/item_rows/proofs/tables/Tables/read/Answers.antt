@@ -1,9 +1,8 @@
-use Rattle.std.proofs.Common.{◌≡◌, ℕ, ◌<◌, List, arith}
+use Rattle.std.proofs.Common.{◌≡◌, ℕ, ◌<◌, arith}
 use Rattle.std.proofs.lemmas.Result.{err_from_is_err_and}
 use Rattle.framing.specs.declared.fault.Part.TheVariants as P
 use Rattle.framing.specs.declared.fault.Refusal.TheVariants as R
 use Rattle.framing.specs.Broken.{FirstBroken}
-use Rattle.framing.specs.Layout.{bytes_in, count_of}
 use Rattle.table.specs.Tables.{listed, tabulated}
 use Rattle.item_rows.specs.Causes.{consts_in, expansions_in, items_in}
 use Rattle.item_rows.specs.Records.{GoodConst, GoodExpansion, GoodItem, const_at, expansion_at, item_at}

@@ -1,4 +1,4 @@
-use Rattle.std.proofs.Common.{◌≡◌, ◌+◌, ◌-◌, ◌<◌, ◌≤◌, drop, sym, ap, ◌∙◌, arith}
+use Rattle.std.proofs.Common.{◌≡◌, ◌+◌, ◌<◌, ◌≤◌, drop, sym, ap, ◌∙◌, arith}
 use Rattle.sheet.specs.Tables.{found}
 use Rattle.scope.specs.Queries.{all_entries, data_of, entries_of}
 use Rattle.scope.proofs.Own.{own_at, other_at, in_range, from_start, past_end, found_next}

@@ -1,4 +1,4 @@
-use Rattle.std.proofs.Common.{◌≡◌, ◌+◌, ◌<◌, ◌≤◌, drop, Some, None, sym, ap, ◌∙◌, arith}
+use Rattle.std.proofs.Common.{◌<◌, ◌≤◌, drop, sym, ap, ◌∙◌, arith}
 use Rattle.scope.specs.Queries.{all_entries, data_of, entries_of, first_that}
 use Rattle.scope.proofs.Own.{own_at, other_at, in_range, from_start, past_end, that_here, that_other, that_none}
 use Rattle.scope.proofs.tables.ExprScopes.first_entry.Goals as goal

@@ -1,4 +1,4 @@
-use Rattle.std.proofs.Common.{◌≡◌, Some, sym, refl, ap, ◌∙◌, arith}
+use Rattle.std.proofs.Common.{Some, sym, ap, ◌∙◌, arith}
 use Rattle.scope.specs.Queries.{outward, parent_from}
 use Rattle.scope.proofs.Own.{outward_none, outward_more}
 use Rattle.scope.proofs.tables.ExprScopes.scope_chain.Goals as goal

@@ -1,15 +1,15 @@
-use Rattle.std.proofs.Common.{◌≡◌, ℕ, ◌/◌, ◌<◌, ◌≤◌, [], map, length, sym, refl, ap, ◌∙◌, subst, arith}
+use Rattle.std.proofs.Common.{◌≡◌, ℕ, ◌/◌, ◌<◌, [], map, length, sym, ap, ◌∙◌, subst, arith}
 use Rattle.std.proofs.lemmas.Result.{err_from_is_err_and}
 use Rattle.format.specs.declared.fault.Part.TheVariants as P
 use Rattle.format.specs.declared.fault.Refusal.TheVariants as R
 use Rattle.format.specs.Ids.{number_of}
 use Rattle.format.specs.Layout.{count_of, bytes_in}
-use Rattle.sheet.specs.Lawful.{AllAdmitted, AllCounted, AllLower, AllNamed, BodyLast, LetsInPlace, Once}
+use Rattle.sheet.specs.Lawful.{AllAdmitted, AllLower, BodyLast, LetsInPlace, Once}
 use Rattle.sheet.specs.Records.{GoodBinding, GoodFrame, binding_at, child_from, frame_at, node_from, numbers}
-use Rattle.sheet.specs.Shape.{Shape, shape}
+use Rattle.sheet.specs.Shape.{shape}
 use Rattle.sheet.specs.Steps.{FirstBroken}
 use Rattle.sheet.specs.Tables.{listed, tabulated}
-use Rattle.sheet.specs.Tree.{AddsUp, LaidOut}
+use Rattle.sheet.specs.Tree.{AddsUp}
 use Rattle.sheet.proofs.Bodies.{all_named, all_counted, bindings_named, frames_numbered}
 use Rattle.sheet.proofs.Counts.{laid_within}
 use Rattle.sheet.proofs.Listed.{length-tabulated, listed_few}

@@ -1,4 +1,4 @@
-use Rattle.std.proofs.Common.{length, take, arith, rules}
+use Rattle.std.proofs.Common.{arith}
 use Rattle.std.proofs.lemmas.List.{length-take-le, take_more_set}
 use Rattle.sheet.proofs.table.Table.push.Goals as goal
 
