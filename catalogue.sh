@@ -9,27 +9,28 @@
 set -euo pipefail
 
 root=$(cd "$(dirname "${BASH_SOURCE[0]}")" && pwd)
-program=$root/target/bin/catalogue
-# The time of the last check that passed: one that finds nothing to build leaves the program as it is.
-checked=$root/target/catalogue.checked
+program=$root/crates/catalogue/out/catalogue
+# The time of the last run that built it: one that finds nothing to build leaves the program as it is.
+checked=$root/crates/catalogue/out/catalogue.checked
 
 is_fresh() {
     [ -x "$program" ] && [ -e "$checked" ] || return 1
     local newer
-    newer=$(cd "$root/crates" && find format sheet reach builder scope catalogue -type f -newer "$checked" -print -quit)
+    newer=$(cd "$root/crates" && find format sheet reach builder scope catalogue -name out -prune -o -type f -newer "$checked" -print -quit)
     [ -z "$newer" ]
 }
 
 build() {
     local started log
     started=$(mktemp)
-    if ! log=$(cd "$root" && rt check catalogue 2>&1); then
+    # This proves the program with all below it, builds it, and runs it on its own example.
+    if ! log=$(cd "$root/crates/catalogue" && rt run 2>&1); then
         rm -f "$started"
         printf '%s\n' "$log" >&2
         echo "catalogue.sh: the program cannot be built" >&2
         exit 1
     fi
-    # What was edited while the check ran is newer than its start.
+    # What was edited while it ran is newer than its start.
     touch -r "$started" "$checked"
     rm -f "$started"
 }

@@ -31,8 +31,12 @@ OTHERWISE = {
     "frame-number": "frame_number_lem", "kind-said": "kind_said_lem", "of-child": "of_child_lem", "use-of": "use_of_lem",
     "in-module": "in_the_module", "in-block": "in_the_block", "Laid_out": "LaidOut", "Laid-out": "LaidOut", "sheetNode": "sheet_node", "sheetChild": "sheet_child",
 }
-# The same, in one file alone.
-THERE = {"crates/reach/proofs/Whole.antt": {"is_body": "is_body_lem"}, "crates/scope/proofs/Whole.antt": {"is_body": "is_body_lem"}}
+# The same, in some files alone: a lemma, and the word of the file, in the older spelling, that it would meet.
+THERE = {
+    "proofs/Whole.antt": ("is_body", "isBody"),
+    "proofs/Reach.antt": ("parent_of", ""),
+    "proofs/Record.antt": ("parent_of", ""),
+}
 
 
 def antt():
@@ -100,8 +104,8 @@ def main():
 
     changed = 0
     for path, text in texts.items():
-        here = THERE.get(path, {}) if "isBody" in text else {}
-        out = turn(TOKEN.sub(lambda m: here.get(m[0], m[0]), text))
+        lemma, meets = THERE.get(path.split("/", 2)[2], ("", ""))
+        out = turn(TOKEN.sub(lambda m: m[0] + "_lem" if m[0] == lemma and meets in text else m[0], text))
         if out != text:
             open(path, "w", encoding="utf-8").write(out)
             changed += 1

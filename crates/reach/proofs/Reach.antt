@@ -91,8 +91,8 @@ found_to b c (suc m) l = elim (cases_lt 0 (times c (kids b (suc m)))) [
 ]
 
 -- every node but the last has a parent
-pub parent_of : (b : Shape) (m : ℕ) → Once b m → (c : ℕ) → 0 < c → c < m → (p : ℕ) × ((0 < p) × (p ≤ m)) × ((i : ℕ) × (kid b p i ≡ c))
-parent_of b m once c z l = found_to b c m (omega (arith, times_to b c z m, once c z l))
+pub parent_of_lem : (b : Shape) (m : ℕ) → Once b m → (c : ℕ) → 0 < c → c < m → (p : ℕ) × ((0 < p) × (p ≤ m)) × ((i : ℕ) × (kid b p i ≡ c))
+parent_of_lem b m once c z l = found_to b c m (omega (arith, times_to b c z m, once c z l))
 
 -- a child has one parent, and one place there
 lone : (b : Shape) (m : ℕ) (fall : Below b.nodes b.children) → Once b m → m ≤ 512 → (p q i j : ℕ) → 0 < p → p ≤ m → 0 < q → q ≤ m → 0 < kid b p i → kid b p i ≡ kid b q j → (p ≡ q) × (i ≡ j)

@@ -13,7 +13,7 @@ use Rattle.reach.specs.Law.{TreeLaw, AllRecorded}
 use Rattle.reach.specs.Tables.{kind_of, kids, kid, is_expr, most, Full}
 use Rattle.reach.proofs.Fold.{folded_is, falls}
 use Rattle.reach.proofs.Whole.{low}
-use Rattle.reach.proofs.Reach.{parent_of}
+use Rattle.reach.proofs.Reach.{parent_of_lem}
 use Rattle.reach.proofs.Marks.{Under, Marked, Recorded, Tame, Tames, Known, tame_kind, each_tame, tame_none, tame_at, tame_drop, first_rest, added_marks, SomeOf, opened_up}
 
 tames_of : (b : Shape) (e : ℕ) (cs : List (Option NodeId)) (n : ℕ) → ((i : ℕ) → i < length cs → number_of (get_or cs i None) < n) → ((c : ℕ) → 0 < c → c < n → Tame b e c (visit_of b c)) → Tames b e (map number_of cs) (map (of_child skip (visit_of b)) cs)
@@ -47,7 +47,7 @@ climb b m e t zero c l z q u = let s : c ≡ m = omega arith in subst (λ n. Und
 climb b m e t (suc k) c l z q u = elim (cases_eq c m) [
   | inl s ↦ subst (λ n. Under b e n) s u
   | inr s ↦
-      let r = parent_of b m t.once c z (omega (arith, s)) in
+      let r = parent_of_lem b m t.once c z (omega (arith, s)) in
       let up = low b t.below r.0 r.1.0 (omega (arith, r.1, t.size)) r.2.0 in
       climb b m e t k r.0 (omega (arith, up, r.2.1)) r.1.0 r.1.1 (Under.down r.0 r.2.0 r.1.0 (subst (λ n. Under b e n) (sym r.2.1) u))
 ]
