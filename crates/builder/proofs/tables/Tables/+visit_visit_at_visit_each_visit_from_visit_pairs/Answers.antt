@@ -108,7 +108,7 @@ visit-returns-in-ExprStatement t c =
 pub visit-returns-in-MacroDef : goal.visit-returns-in-MacroDef
 unfolding step
 visit-returns-in-MacroDef t c =
-    record { is = ap (λ f. f c.args.at (told c.args.self.now)) (c.look-node.ensures.means ∙ ap (λ k. step c.args.n.raw k (visits (shape_of c.args.body.now) c.args.n.raw)) c.in-MacroDef.is) ∙ (rw (c.make-current.ensures.is, c.make-constant.ensures.is)); grown = omega arith }
+    record { is = ap (λ f. f c.args.at (told c.args.self.now)) (c.look-node.ensures.means ∙ ap (λ k. step c.args.n.raw k (visits (shape_of c.args.body.now) c.args.n.raw)) c.in-MacroDef.is) ∙ search (rules, c.make-current.ensures.is); grown = omega arith }
 
 pub visit-returns-in-OtherItem : goal.visit-returns-in-OtherItem
 unfolding step
