@@ -67,6 +67,19 @@ pub that_other : (p : ScopeEntry → Bool) (e : ScopeEntry) (es : List ScopeEntr
 unfolding first_that
 that_other p e es h = cond-false _ _ _ h
 
+-- the first of a name
+pub named_none : (n : ℕ) → first_named n [] ≡ None
+unfolding first_named
+named_none n = refl
+
+pub named_here : (n : ℕ) (e : ScopeEntry) (es : List ScopeEntry) → e.name.0 ≡ n → first_named n (e ∷ es) ≡ Some e
+unfolding first_named
+named_here n e es h = cond-true _ _ _ (eq-eqb e.name.0 n h)
+
+pub named_other : (n : ℕ) (e : ScopeEntry) (es : List ScopeEntry) → (e.name.0 ≡ n → ⊥) → first_named n (e ∷ es) ≡ first_named n es
+unfolding first_named
+named_other n e es h = cond-false _ _ _ (ne_eqb e.name.0 n h)
+
 -- a name alone is such a test
 pub named_first : (n : Name) (es : List ScopeEntry) → first_that (named n) es ≡ first_named n.0 es
 unfolding first_that first_named
