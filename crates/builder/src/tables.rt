@@ -1,50 +1,36 @@
 // The tables of a scope tree.
 ghost use Rattle.std.specs.Prelude.{◌≡◌, ℕ, ◌<◌, ◌≤◌, length};
 ghost use Rattle.reach.specs.Blank.{Rooted, Sloping};
-ghost use Rattle.reach.specs.Ranges.{Ended, EndsAfter, Homed, Real, Started, StartsBefore};
+ghost use Rattle.reach.specs.Ranges.{Ranged};
+ghost use Rattle.table.specs.Tables.{listed};
 
 use format::ids::ScopeId;
 use reach::data::{ScopeData, ScopeEntry};
+use table::Table;
 
 // The scopes, numbered from 1 in order of making. Each has a parent of a lower number, but the
 // first, which has none.
 #[derive(Drop)]
 pub struct Scopes {
-    pub records: [ScopeData; 1023],
-    pub len: u16,
-    ghost whole: { length records ≡ 1023 },
-    ghost few: { len ≤ 1023 },
-    ghost sloping: { Sloping records len },
-    ghost rooted: { Rooted records len },
+    table: Table<ScopeData, 1023>,
+    ghost sloping: { Sloping (listed table) },
+    ghost rooted: { Rooted (listed table) },
 }
 
-// The entries of all scopes, in order of adding.
-#[derive(Drop)]
-pub struct Entries {
-    pub records: [ScopeEntry; 512],
-    pub len: u16,
-    ghost whole: { length records ≡ 512 },
-    ghost few: { len ≤ 512 },
-}
-
-// The scope that each expression is recorded in.
+// The scope that each expression is recorded in, by its place: no memory is asked for, so it is no map.
 #[derive(Drop)]
 pub struct Recorded {
     pub records: [Option<ScopeId>; 512],
 }
 
-// The three tables. Every entry is of a scope that stands and lies within that scope's range.
+// The three tables, the entries of all scopes in order of adding. Every entry is of a scope that
+// stands and lies within that scope's range.
 #[derive(Drop)]
 pub struct Tables {
     pub scopes: Scopes,
-    pub entries: Entries,
+    pub entries: Table<ScopeEntry, 512>,
     pub recorded: Recorded,
-    ghost homed: { Homed entries.records entries.len scopes.len },
-    ghost real: { Real entries.records entries.len },
-    ghost after: { StartsBefore scopes.records entries.records entries.len },
-    ghost before: { EndsAfter scopes.records entries.records entries.len },
-    ghost started: { Started scopes.records scopes.len entries.len },
-    ghost ended: { Ended scopes.records scopes.len entries.len },
+    ghost ranged: { Ranged (listed scopes.table) (listed entries) },
 }
 
 pub mod build;

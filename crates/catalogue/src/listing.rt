@@ -5,27 +5,24 @@ use crate::show::indents::Indent;
 use crate::show::nodes::NodeText;
 use crate::show::scopes::ScopeText;
 use crate::walk::Spot;
-use format::ids::{BindingId, NodeId};
+use format::ids::NodeId;
 use scope::tables::ExprScopes;
 use sheet::body::Body;
 use std::io;
 
 fn print_nodes(rt: &HostRuntime, body: &Body) -> io::Result<()> {
-    for number in 1..=body.root().number() {
-        if let Some(id) = NodeId::new(number) {
-            let text = NodeText { body, id };
-            println!(rt; "  node {number}  {text}")?;
-        }
+    // The ids are counted here and below, and by no function: it could not answer an `impl Iterator`.
+    for id in (1..=body.root().number()).filter_map(NodeId::new) {
+        let number = id.number();
+        let text = NodeText { body, id };
+        println!(rt; "  node {number}  {text}")?;
     }
     Ok(())
 }
 
-// The bindings are numbered without a gap, so the first number that has none ends them.
+// Bindings are told from 1, as nodes name them.
 fn print_bindings(rt: &HostRuntime, body: &Body) -> io::Result<()> {
-    for number in 1..=u32::MAX {
-        let Some(binding) = body.binding(BindingId(number)) else {
-            break;
-        };
+    for (number, binding) in (1..=u32::MAX).zip(body.bindings()) {
         let name = binding.name.0;
         let hygiene = binding.hygiene.0;
         println!(rt; "  binding {number}  name {name}, hygiene {hygiene}")?;
@@ -35,17 +32,15 @@ fn print_bindings(rt: &HostRuntime, body: &Body) -> io::Result<()> {
 
 // Frames are told from 1, as a refusal tells them, the outermost first.
 fn print_frames(rt: &HostRuntime, body: &Body) -> io::Result<()> {
-    for place in 0..body.frame_count() {
-        if let Some(frame) = body.frame(place) {
-            let number = place + 1;
-            let text = FrameText(frame);
-            println!(rt; "  frame {number}  {text}")?;
-        }
+    for (number, frame) in (1..=u32::MAX).zip(body.frames()) {
+        let text = FrameText(*frame);
+        println!(rt; "  frame {number}  {text}")?;
     }
     Ok(())
 }
 
-// The scopes, each further to the right than the one that it lies in.
+// The scopes, each further to the right than the one that it lies in. No more are told than there are,
+// which bounds the way; the closure of a `successors` would be `next` once more.
 fn print_scopes(rt: &HostRuntime, tree: &ExprScopes) -> io::Result<()> {
     let mut spot = Spot::root();
     for _ in 0..tree.scope_count() {
@@ -65,12 +60,11 @@ fn print_scopes(rt: &HostRuntime, tree: &ExprScopes) -> io::Result<()> {
 
 // The scope that each expression is recorded in. Other nodes have none.
 fn print_expressions(rt: &HostRuntime, body: &Body, tree: &ExprScopes) -> io::Result<()> {
-    for number in 1..=body.root().number() {
-        if let Some(id) = NodeId::new(number) {
-            if let Ok(scope) = tree.scope_for(id) {
-                let scope = scope.0;
-                println!(rt; "    node {number} in scope {scope}")?;
-            }
+    for id in (1..=body.root().number()).filter_map(NodeId::new) {
+        if let Ok(scope) = tree.scope_for(id) {
+            let number = id.number();
+            let scope = scope.0;
+            println!(rt; "    node {number} in scope {scope}")?;
         }
     }
     Ok(())

@@ -4,4 +4,5 @@ pub mod frames;
 pub mod indents;
 pub mod kinds;
 pub mod nodes;
+mod numbers;
 pub mod scopes;

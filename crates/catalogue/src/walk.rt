@@ -17,10 +17,7 @@ pub struct Spot {
 fn is_in(tree: &ExprScopes, scope: ScopeId, outer: ScopeId) -> bool
     ensures only_where_that_is_its_parent { T result → parent_of (data_of tree.now scope).parent ≡ outer.0 }
 {
-    match tree.parent(scope) {
-        Ok(Some(parent)) => parent.0 == outer.0,
-        _ => false,
-    }
+    tree.parent(scope) == Ok(Some(outer))
 }
 
 // The scope of the lowest number after another that lies right in an outer one.
@@ -28,6 +25,8 @@ fn next_in(tree: &ExprScopes, outer: ScopeId, after: ScopeId) -> Option<ScopeId>
     ensures comes_after { IfSome result (λ s. after.0 < s.0) }
     ensures lies_right_in_it { IfSome result (λ s. parent_of (data_of tree.now s).parent ≡ outer.0) }
 {
+    // By number: that is how scopes are asked. Not `find`: what is asked here of the scope found is told
+    // of each by `is_in`, and would be told of a closure once more.
     for number in after.0..tree.scope_count() {
         let scope = ScopeId(number + 1);
         if is_in(tree, scope, outer) {

@@ -1,7 +1,7 @@
 -- The first line of an expectation.
 use Rattle.std.specs.Prelude.{ℕ, List, codes}
 use Rattle.comparison.specs.declared.counts.Counts.{Counts}
-use Rattle.comparison.specs.Line.{Word, Labelled}
+use Rattle.words.specs.Line.{Word, Labelled}
 use Rattle.std.specs.Char.{is_not_whitespace}
 use Rattle.std.specs.Str.{NoCharPasses}
 

@@ -1,4 +1,3 @@
-pub mod Line
 pub mod Counted
 pub mod Told
 pub mod Makers

@@ -9,7 +9,7 @@ use Rattle.comparison.specs.declared.makers.Maker.TheVariants as M
 use Rattle.comparison.specs.declared.ranges.Ranges.{Ranges}
 use Rattle.comparison.specs.declared.ranges.Ranges.TheVariants as G
 use Rattle.comparison.specs.declared.scopes.ScopeLine.{ScopeLine}
-use Rattle.comparison.specs.Line.{Word, Labelled}
+use Rattle.words.specs.Line.{Word, Labelled}
 use Rattle.std.specs.Char.{is_not_whitespace}
 use Rattle.std.specs.Str.{NoCharPasses}
 

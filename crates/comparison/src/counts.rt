@@ -1,14 +1,14 @@
 // How many nodes, bindings and frames a sheet has, and how many scopes and entries its scope tree.
 ghost use Rattle.comparison.specs.Agreed.{Silent};
 ghost use Rattle.comparison.specs.Counted.{Counted};
+ghost use Rattle.scope.specs.Queries.{all_entries, all_scopes};
 ghost use Rattle.sheet.specs.Held.{bindings_of, frames_of, nodes_of};
 ghost use Rattle.std.specs.Prelude.{◌≡◌, length, IfSome, OnOk};
 
+use crate::built::Built;
 use crate::report::Report;
-use crate::words::Words;
-use scope::tables::ExprScopes;
-use sheet::body::Body;
 use std::io;
+use words::Words;
 
 #[derive(Clone, Copy)]
 struct Counts {
@@ -19,20 +19,23 @@ struct Counts {
     entries: usize,
 }
 
-impl Counts {
-    fn of(body: &Body, tree: &ExprScopes) -> Counts
-        ensures counts_the_records { (result.nodes ≡ length (nodes_of body.now)) × (result.bindings ≡ length (bindings_of body.now)) × (result.frames ≡ length (frames_of body.now)) }
-        ensures counts_the_tree { (result.scopes ≡ tree.now.scopes.len) × (result.entries ≡ tree.now.entries.len) }
-    {
+// The records of the body, and what its tree has.
+impl From<Built<'_>> for Counts {
+    ghost from_gives = { λ built counts. (counts.nodes ≡ length (nodes_of built.body.now)) × (counts.bindings ≡ length (bindings_of built.body.now)) × (counts.frames ≡ length (frames_of built.body.now)) × (counts.scopes ≡ length (all_scopes built.tree.now)) × (counts.entries ≡ length (all_entries built.tree.now)) };
+
+    fn from(built: Built<'_>) -> Counts {
         Counts {
-            nodes: body.node_count(),
-            bindings: body.binding_count(),
-            frames: body.frame_count(),
-            scopes: tree.scope_count() as usize,
-            entries: tree.entry_count() as usize,
+            nodes: built.body.node_count(),
+            bindings: built.body.binding_count(),
+            frames: built.body.frame_count(),
+            scopes: built.tree.scope_count() as usize,
+            entries: built.tree.entry_count() as usize,
         }
     }
+}
 
+impl Counts {
+    // An Option and no `FromStr`, here and at the other lines: one that says none has no error to tell.
     // The line is `sheet nodes N bindings B frames F scopes S entries E`.
     fn parse(line: &str) -> Option<Counts>
         ensures is_what_the_line_says { IfSome result (λ c. Counted line.now c) }
@@ -65,14 +68,9 @@ fn compare_counts(report: &mut Report, expected: Counts, got: Counts) -> io::Res
     report.compare("entries", expected.entries, got.entries)
 }
 
-pub(crate) fn compare(
-    report: &mut Report,
-    body: &Body,
-    tree: &ExprScopes,
-    line: &str,
-) -> io::Result<()> {
+pub(crate) fn compare(report: &mut Report, built: Built, line: &str) -> io::Result<()> {
     let Some(expected) = Counts::parse(line) else {
         return report.unreadable(line);
     };
-    compare_counts(report, expected, Counts::of(body, tree))
+    compare_counts(report, expected, Counts::from(built))
 }

@@ -1,19 +1,18 @@
 // The entries of each scope against its lines.
 ghost use Rattle.std.specs.Prelude.{◌≡◌, ◌+◌, min, IfSome, None, MatchOption};
 ghost use Rattle.comparison.specs.Agreed.{Silent};
-ghost use Rattle.comparison.specs.Line.{Word};
 ghost use Rattle.comparison.specs.Told.{EntryTold, owner_word};
 ghost use Rattle.scope.specs.Queries.{IsScope, all_entries, data_of, entries_of};
-ghost use Rattle.sheet.specs.Tables.{found};
-ghost use Rattle.std.specs.Str.Iter.{split_whitespace_rest};
+ghost use Rattle.table.specs.Tables.{found};
+ghost use Rattle.words.specs.Line.{Word, unread};
 
 use crate::ranges::Ranges;
 use crate::report::Report;
-use crate::words::Words;
 use format::ids::ScopeId;
 use reach::data::ScopeEntry;
 use scope::tables::ExprScopes;
 use std::{fmt, io};
+use words::Words;
 
 // What a line tells of an entry.
 #[derive(Clone, Copy, PartialEq, Eq)]
@@ -34,23 +33,20 @@ enum Owner {
 
 impl Owner {
     fn parse(words: &mut Words) -> Option<Owner>
-        ensures is_what_the_word_says { IfSome result (λ o. Word (split_whitespace_rest words.old.rest) (owner_word o) (split_whitespace_rest words.new.rest)) }
+        ensures is_what_the_word_says { IfSome result (λ o. Word (unread words.old) (owner_word o) (unread words.new)) }
     {
-        let word = words.take()?;
-        if word == "own" {
-            return Some(Owner::Own);
+        match words.take()? {
+            "own" => Some(Owner::Own),
+            "taken" => Some(Owner::Taken),
+            _ => None,
         }
-        if word == "taken" {
-            return Some(Owner::Taken);
-        }
-        None
     }
 }
 
-impl EntryLine {
-    fn of(entry: ScopeEntry) -> EntryLine
-        ensures tells_that_entry { (result.scope ≡ entry.scope.0) × (result.binding ≡ entry.binding.0) × (result.name ≡ entry.name.0) × (result.hygiene ≡ entry.hygiene.0) }
-    {
+impl From<ScopeEntry> for EntryLine {
+    ghost from_gives = { λ entry line. (line.scope ≡ entry.scope.0) × (line.binding ≡ entry.binding.0) × (line.name ≡ entry.name.0) × (line.hygiene ≡ entry.hygiene.0) };
+
+    fn from(entry: ScopeEntry) -> EntryLine {
         EntryLine {
             scope: entry.scope.0 as usize,
             binding: entry.binding.0 as usize,
@@ -58,7 +54,9 @@ impl EntryLine {
             hygiene: entry.hygiene.0 as usize,
         }
     }
+}
 
+impl EntryLine {
     // The line is `entry SCOPE binding B name N hygiene H`, and then whose it is.
     fn parse(line: &str) -> Option<(EntryLine, Owner)>
         ensures is_what_the_line_says { IfSome result (λ p. EntryTold line.now p.0 p.1) }
@@ -110,7 +108,7 @@ fn compare_entry(
     let Ok(Some(entry)) = tree.entry(ScopeId(scope), place) else {
         return report.differs(expected, "no such entry");
     };
-    let got = EntryLine::of(entry);
+    let got = EntryLine::from(entry);
     if got == expected {
         return Ok(());
     }
@@ -118,15 +116,13 @@ fn compare_entry(
 }
 
 // The lines of one scope that have come: how many, and how many of them are of its own entries.
-#[derive(Clone, Copy)]
+#[derive(Clone, Copy, Default)]
 struct Run {
     lines: u16,
     own: u16,
 }
 
 impl Run {
-    const EMPTY: Run = Run { lines: 0, own: 0 };
-
     // After the last line of a scope: it has no more entries than have come.
     fn finish_entries(
         self,
@@ -138,7 +134,7 @@ impl Run {
     {
         let number = scope.0;
         match tree.entry(scope, self.own) {
-            Ok(Some(entry)) => report.differs("no more entries", EntryLine::of(entry)),
+            Ok(Some(entry)) => report.differs("no more entries", EntryLine::from(entry)),
             Ok(None) => Ok(()),
             Err(_) => report.differs(format_args!("scope {number}"), "no such scope"),
         }
@@ -196,7 +192,7 @@ impl Entries {
         Entries {
             ranges,
             scope: 1,
-            run: Run::EMPTY,
+            run: Run::default(),
             own: 0,
             taken: 0,
         }
@@ -218,9 +214,9 @@ impl Entries {
 
     // Goes on to the lines of a scope; those before it have had all theirs.
     fn go_to(&mut self, report: &mut Report, tree: &ExprScopes, scope: u16) -> io::Result<()> {
-        for passed in self.scope..scope {
-            self.run.finish(report, tree, self.ranges, ScopeId(passed))?;
-            self.run = Run::EMPTY;
+        for passed in (self.scope..scope).map(ScopeId) {
+            self.run.finish(report, tree, self.ranges, passed)?;
+            self.run = Run::default();
         }
         self.scope = scope;
         Ok(())

@@ -1,18 +1,18 @@
 // The scope that each expression is recorded in, against its line.
-ghost use Rattle.std.specs.Prelude.{◌≡◌, ◌-◌, true, false, IfSome, Some, None, MatchOption, slice_index_or};
+ghost use Rattle.std.specs.Prelude.{◌≡◌, ◌-◌, true, false, IfSome, Some, None, MatchOption};
 ghost use Rattle.comparison.specs.Agreed.{Silent};
 ghost use Rattle.comparison.specs.Told.{ExprTold};
 ghost use Rattle.reach.specs.Tables.{is_expr};
+ghost use Rattle.scope.specs.Queries.{recorded_at};
 ghost use Rattle.sheet.specs.Held.{nodes_of};
-ghost use Rattle.sheet.specs.Tables.{found};
+ghost use Rattle.table.specs.Tables.{found};
 
+use crate::built::Built;
 use crate::report::Report;
-use crate::words::Words;
 use format::ids::NodeId;
 use format::kind::Sort;
-use scope::tables::ExprScopes;
-use sheet::body::Body;
 use std::{fmt, io};
+use words::Words;
 
 // One past the largest number of a node.
 const PAST_NODES: u16 = 513;
@@ -26,12 +26,12 @@ pub struct ExprLine {
 
 impl ExprLine {
     // What the tree tells of a node, if it records a scope for it.
-    fn of(tree: &ExprScopes, id: NodeId) -> Option<ExprLine>
+    fn of(built: Built, id: NodeId) -> Option<ExprLine>
         ensures is_what_the_tree_has { MatchOption result
-            (slice_index_or tree.now.recorded.records (id.raw - 1) None ≡ None)
-            (λ e. (e.node ≡ id.raw) × (slice_index_or tree.now.recorded.records (id.raw - 1) None ≡ Some (record { 0 = e.scope }))) }
+            (recorded_at built.entry.tree.now id ≡ None)
+            (λ e. (e.node ≡ id.raw) × (recorded_at built.entry.tree.now id ≡ Some (record { 0 = e.scope }))) }
     {
-        let scope = tree.scope_for(id).ok()?;
+        let scope = built.tree.scope_for(id).ok()?;
         Some(ExprLine {
             node: id.number() as usize,
             scope: scope.0 as usize,
@@ -57,30 +57,24 @@ impl fmt::Display for ExprLine {
     }
 }
 
-fn is_expression(body: &Body, id: NodeId) -> bool
-    ensures by_its_kind { MatchOption (found (nodes_of body.now) (id.raw - 1)) (result ≡ false) (λ n. result ≡ is_expr n.kind) }
+fn is_expression(built: Built, id: NodeId) -> bool
+    ensures by_its_kind { MatchOption (found (nodes_of built.entry.body.now) (id.raw - 1)) (result ≡ false) (λ n. result ≡ is_expr n.kind) }
 {
-    match body.node(id) {
-        Some(node) => node.kind.sort().is(Sort::Expression),
-        None => false,
-    }
+    built
+        .body
+        .node(id)
+        .is_some_and(|node| node.kind.sort() == Sort::Expression)
 }
 
 // A node that has a line: it is an expression, and recorded in the scope that the line says.
-fn compare_node(
-    report: &mut Report,
-    body: &Body,
-    tree: &ExprScopes,
-    id: NodeId,
-    expected: ExprLine,
-) -> io::Result<()>
-    ensures silent_only_where_the_tree_has_it { Silent report.old.differences report.new.differences → (expected.node ≡ id.raw) × (slice_index_or tree.now.recorded.records (id.raw - 1) None ≡ Some (record { 0 = expected.scope })) }
-    ensures silent_only_at_an_expression { Silent report.old.differences report.new.differences → MatchOption (found (nodes_of body.now) (id.raw - 1)) ⊥ (λ n. is_expr n.kind ≡ true) }
+fn compare_node(report: &mut Report, built: Built, id: NodeId, expected: ExprLine) -> io::Result<()>
+    ensures silent_only_where_the_tree_has_it { Silent report.old.differences report.new.differences → (expected.node ≡ id.raw) × (recorded_at built.entry.tree.now id ≡ Some (record { 0 = expected.scope })) }
+    ensures silent_only_at_an_expression { Silent report.old.differences report.new.differences → MatchOption (found (nodes_of built.entry.body.now) (id.raw - 1)) ⊥ (λ n. is_expr n.kind ≡ true) }
 {
-    if !is_expression(body, id) {
+    if !is_expression(built, id) {
         return report.differs(expected, "no expression");
     }
-    match ExprLine::of(tree, id) {
+    match ExprLine::of(built, id) {
         Some(got) => {
             if got == expected {
                 return Ok(());
@@ -92,18 +86,18 @@ fn compare_node(
 }
 
 // A node that has no line: it is no expression, and no scope is recorded for it.
-fn compare_silent(report: &mut Report, body: &Body, tree: &ExprScopes, id: NodeId) -> io::Result<()>
-    ensures silent_only_where_none_is_recorded { Silent report.old.differences report.new.differences → slice_index_or tree.now.recorded.records (id.raw - 1) None ≡ None }
-    ensures silent_only_at_no_expression { Silent report.old.differences report.new.differences → IfSome (found (nodes_of body.now) (id.raw - 1)) (λ n. is_expr n.kind ≡ false) }
+fn compare_silent(report: &mut Report, built: Built, id: NodeId) -> io::Result<()>
+    ensures silent_only_where_none_is_recorded { Silent report.old.differences report.new.differences → recorded_at built.entry.tree.now id ≡ None }
+    ensures silent_only_at_no_expression { Silent report.old.differences report.new.differences → IfSome (found (nodes_of built.entry.body.now) (id.raw - 1)) (λ n. is_expr n.kind ≡ false) }
 {
     let number = id.number();
-    if is_expression(body, id) {
+    if is_expression(built, id) {
         report.differs(
             format_args!("no expression {number}"),
             format_args!("expression {number}"),
         )?;
     }
-    match ExprLine::of(tree, id) {
+    match ExprLine::of(built, id) {
         Some(got) => report.differs(format_args!("no scope for node {number}"), got),
         None => Ok(()),
     }
@@ -131,17 +125,9 @@ impl Expressions {
     }
 
     // Goes on to a node; those that are passed have no line.
-    fn go_to(
-        &mut self,
-        report: &mut Report,
-        body: &Body,
-        tree: &ExprScopes,
-        node: u16,
-    ) -> io::Result<()> {
-        for number in self.next..node {
-            if let Some(id) = NodeId::new(number) {
-                compare_silent(report, body, tree, id)?;
-            }
+    fn go_to(&mut self, report: &mut Report, built: Built, node: u16) -> io::Result<()> {
+        for id in (self.next..node).filter_map(NodeId::new) {
+            compare_silent(report, built, id)?;
         }
         self.next = node;
         Ok(())
@@ -150,36 +136,28 @@ impl Expressions {
     pub(crate) fn compare(
         &mut self,
         report: &mut Report,
-        body: &Body,
-        tree: &ExprScopes,
+        built: Built,
         line: &str,
     ) -> io::Result<()> {
         let Some(expected) = ExprLine::parse(line) else {
             return report.unreadable(line);
         };
-        let Ok(number) = u16::try_from(expected.node) else {
+        let Some(id) = u16::try_from(expected.node).ok().and_then(NodeId::new) else {
             return report.differs(expected, "no such node");
         };
-        let Some(id) = NodeId::new(number) else {
-            return report.differs(expected, "no such node");
-        };
+        let number = id.number();
         // A second line of a node, or one of an earlier node, is out of order.
         if number < self.next {
             return report.unreadable(line);
         }
-        self.go_to(report, body, tree, number)?;
+        self.go_to(report, built, number)?;
         self.next = number.saturating_add(1);
         self.seen = self.seen.saturating_add(1);
-        compare_node(report, body, tree, id, expected)
+        compare_node(report, built, id, expected)
     }
 
     // After the last line: the nodes that are left, and the numbers that no node of the body has.
-    pub(crate) fn finish(
-        &mut self,
-        report: &mut Report,
-        body: &Body,
-        tree: &ExprScopes,
-    ) -> io::Result<()> {
-        self.go_to(report, body, tree, PAST_NODES)
+    pub(crate) fn finish(&mut self, report: &mut Report, built: Built) -> io::Result<()> {
+        self.go_to(report, built, PAST_NODES)
     }
 }

@@ -4,6 +4,7 @@
 
 ghost use Rattle.std.specs.Prelude.{◌≡◌, ◌+◌, min, OnOk};
 
+mod built;
 mod compared;
 mod counts;
 mod entries;
@@ -14,29 +15,30 @@ mod report;
 mod scopes;
 mod subjects;
 mod totals;
-mod words;
 
+use crate::built::Built;
 use crate::compared::Compared;
 use crate::ranges::Ranges;
 use crate::report::Report;
 use crate::subjects::Subjects;
 use crate::totals::Totals;
-use crate::words::first_word;
 use scope::tables::ExprScopes;
 use sheet::body::Body;
 use std::{fs, io};
+use words::first_word;
 
 // The body and its scope tree against the lines of the expectation.
 fn compare_body(report: &mut Report, body: &Body, expect: &str) -> io::Result<Compared> {
     let tree = ExprScopes::new_body(body);
+    let built = Built { body, tree: &tree };
     let mut lines = expect.lines();
-    counts::compare(report, body, &tree, lines.next().unwrap_or(""))?;
+    counts::compare(report, built, lines.next().unwrap_or(""))?;
     let ranges = Ranges::read(report, lines.next().unwrap_or(""))?;
     let mut subjects = Subjects::new(ranges);
     for line in lines {
-        subjects.compare(report, body, &tree, line)?;
+        subjects.compare(report, built, line)?;
     }
-    subjects.finish(report, body, &tree)
+    subjects.finish(report, built)
 }
 
 // Compares one sheet, and tells how much of it was compared; a sheet that is refused has nothing.
@@ -48,7 +50,7 @@ fn compare_sheet(rt: &HostRuntime, report: &mut Report) -> io::Result<Compared> 
         Ok(body) => compare_body(report, &body, expect.as_str()),
         Err(fault) => {
             report.refused(fault)?;
-            Ok(Compared::nothing())
+            Ok(Compared::default())
         }
     }
 }
@@ -62,7 +64,7 @@ fn compare_line(rt: &HostRuntime, line: &str, totals: &mut Totals) -> io::Result
         Ok(compared) => totals.count(compared, report.differences()),
         Err(error) => {
             report.failed(error)?;
-            totals.count(Compared::nothing(), report.differences());
+            totals.count(Compared::default(), report.differences());
         }
     }
     Ok(())

@@ -1,13 +1,12 @@
 // What made a scope, as a line tells it.
-ghost use Rattle.comparison.specs.Makers.{label_told, maker_of};
+ghost use Rattle.comparison.specs.Makers.{maker_of};
 ghost use Rattle.comparison.specs.Told.{MakerTold};
 ghost use Rattle.std.specs.Prelude.{◌≡◌, IfSome};
-ghost use Rattle.std.specs.Str.Iter.{split_whitespace_rest};
+ghost use Rattle.words.specs.Line.{unread};
 
-use crate::words::Words;
-use format::ids::LabelId;
 use reach::data::ScopeKind;
 use std::fmt;
+use words::Words;
 
 // `plain`, `block B label L`, `label L` or `macro M`. A label of 0 is none, as in the line.
 #[derive(Clone, Copy, PartialEq, Eq)]
@@ -18,52 +17,37 @@ pub enum Maker {
     Definition(usize),
 }
 
-fn label_number(label: Option<LabelId>) -> usize
-    ensures zero_for_none { result ≡ label_told label }
-{
-    match label {
-        Some(label) => label.0 as usize,
-        None => 0,
-    }
-}
+impl From<ScopeKind> for Maker {
+    ghost from_gives = { λ kind maker. maker ≡ maker_of kind };
 
-impl Maker {
-    pub(crate) fn of(kind: ScopeKind) -> Maker
-        ensures tells_that_kind { result ≡ maker_of kind }
-    {
+    fn from(kind: ScopeKind) -> Maker {
         match kind {
             ScopeKind::Plain => Maker::Plain,
             ScopeKind::Block { id, label } => Maker::Block {
                 block: id.0 as usize,
-                label: label_number(label),
+                label: label.map_or(0, |label| label.0 as usize),
             },
             ScopeKind::Label(label) => Maker::Label(label.0 as usize),
             ScopeKind::MacroDef(id) => Maker::Definition(id.0 as usize),
         }
     }
+}
 
+impl Maker {
     pub(crate) fn parse(words: &mut Words) -> Option<Maker>
-        ensures is_what_the_words_say { IfSome result (λ m. MakerTold (split_whitespace_rest words.old.rest) m (split_whitespace_rest words.new.rest)) }
+        ensures is_what_the_words_say { IfSome result (λ m. MakerTold (unread words.old) m (unread words.new)) }
     {
-        let word = words.take()?;
-        if word == "plain" {
-            return Some(Maker::Plain);
+        match words.take()? {
+            "plain" => Some(Maker::Plain),
+            "label" => Some(Maker::Label(words.number()?)),
+            "macro" => Some(Maker::Definition(words.number()?)),
+            "block" => {
+                let block = words.number()?;
+                let label = words.number_after("label")?;
+                Some(Maker::Block { block, label })
+            }
+            _ => None,
         }
-        let number = words.number()?;
-        if word == "label" {
-            return Some(Maker::Label(number));
-        }
-        if word == "macro" {
-            return Some(Maker::Definition(number));
-        }
-        if word == "block" {
-            let label = words.number_after("label")?;
-            return Some(Maker::Block {
-                block: number,
-                label,
-            });
-        }
-        None
     }
 }
 

@@ -6,8 +6,8 @@ ghost use Rattle.comparison.specs.Agreed.{Silent};
 ghost use Rattle.comparison.specs.Told.{RangesTold};
 
 use crate::report::Report;
-use crate::words::Words;
 use std::io;
+use words::Words;
 
 #[derive(Clone, Copy)]
 pub enum Ranges {
@@ -24,13 +24,11 @@ impl Ranges {
         words.word("ranges")?;
         let word = words.take()?;
         words.end()?;
-        if word == "same" {
-            return Some(Ranges::Same);
+        match word {
+            "same" => Some(Ranges::Same),
+            "differ" => Some(Ranges::Differ),
+            _ => None,
         }
-        if word == "differ" {
-            return Some(Ranges::Differ);
-        }
-        None
     }
 
     // What the line says; a line that says neither is a difference.

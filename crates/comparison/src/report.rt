@@ -1,9 +1,11 @@
 // The differences of one sheet: each is printed where it is found, and counted.
 ghost use Rattle.std.specs.Prelude.{◌≡◌, ◌+◌, min, ◌≢◌};
 
-use format::fault::Fault;
+use framing::fault::Fault;
 use std::{fmt, io};
 
+// It stands beside the body and its tree in what is compared, and not with them in one value: that
+// would hold it lent for as long as it lives, and each clause would speak of what it lends.
 #[derive(Drop)]
 pub struct Report<'r, 's> {
     rt: &'r HostRuntime,

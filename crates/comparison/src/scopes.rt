@@ -8,10 +8,10 @@ ghost use Rattle.scope.specs.Queries.{IsScope, data_of};
 
 use crate::makers::Maker;
 use crate::report::Report;
-use crate::words::Words;
 use format::ids::ScopeId;
 use scope::tables::ExprScopes;
 use std::{fmt, io};
+use words::Words;
 
 // What a line tells of a scope. A parent of 0 is none, as in the line.
 #[derive(Clone, Copy, PartialEq, Eq)]
@@ -19,15 +19,6 @@ pub struct ScopeLine {
     scope: usize,
     parent: usize,
     maker: Maker,
-}
-
-fn parent_number(parent: Option<ScopeId>) -> usize
-    ensures zero_for_none { result ≡ parent_of parent }
-{
-    match parent {
-        Some(parent) => parent.0 as usize,
-        None => 0,
-    }
 }
 
 impl ScopeLine {
@@ -38,8 +29,8 @@ impl ScopeLine {
         let data = tree.scope(id).ok()?;
         Some(ScopeLine {
             scope: id.0 as usize,
-            parent: parent_number(data.parent),
-            maker: Maker::of(data.kind),
+            parent: data.parent.map_or(0, |parent| parent.0 as usize),
+            maker: Maker::from(data.kind),
         })
     }
 
@@ -92,18 +83,12 @@ fn compare_scope(
 }
 
 // The scopes whose lines have come: they come in order of number.
-#[derive(Clone, Copy)]
+#[derive(Clone, Copy, Default)]
 pub struct Scopes {
     seen: u16,
 }
 
 impl Scopes {
-    pub(crate) fn new() -> Scopes
-        ensures none_seen { result.seen ≡ 0 }
-    {
-        Scopes { seen: 0 }
-    }
-
     pub(crate) fn seen(self) -> u16
         ensures is_the_count { result ≡ self.seen }
     {

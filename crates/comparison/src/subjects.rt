@@ -1,37 +1,13 @@
 // The lines of an expectation after the first two, each handed to the subject that it tells of.
+use crate::built::Built;
 use crate::compared::Compared;
 use crate::entries::Entries;
 use crate::expressions::Expressions;
 use crate::ranges::Ranges;
 use crate::report::Report;
 use crate::scopes::Scopes;
-use crate::words::first_word;
-use scope::tables::ExprScopes;
-use sheet::body::Body;
 use std::io;
-
-// What a line tells of.
-#[derive(Clone, Copy)]
-enum Subject {
-    Scope,
-    Entry,
-    Expression,
-    // What is compared later: uses, look-ups, entering, tallies and proposals.
-    Later,
-}
-
-// The subject of a line by its first word; none where no line begins so.
-fn subject_of(word: &str) -> Option<Subject> {
-    match word {
-        "scope" => Some(Subject::Scope),
-        "entry" => Some(Subject::Entry),
-        "expr" => Some(Subject::Expression),
-        "use" | "ownuse" | "look" | "ownlook" | "enter" | "tally" | "propose" => {
-            Some(Subject::Later)
-        }
-        _ => None,
-    }
-}
+use words::first_word;
 
 #[derive(Clone, Copy)]
 pub struct Subjects {
@@ -43,7 +19,7 @@ pub struct Subjects {
 impl Subjects {
     pub(crate) fn new(ranges: Ranges) -> Subjects {
         Subjects {
-            scopes: Scopes::new(),
+            scopes: Scopes::default(),
             entries: Entries::new(ranges),
             expressions: Expressions::new(),
         }
@@ -52,31 +28,26 @@ impl Subjects {
     pub(crate) fn compare(
         &mut self,
         report: &mut Report,
-        body: &Body,
-        tree: &ExprScopes,
+        built: Built,
         line: &str,
     ) -> io::Result<()> {
-        match subject_of(first_word(line)) {
-            Some(Subject::Scope) => self.scopes.compare(report, tree, line),
-            Some(Subject::Entry) => self.entries.compare(report, tree, line),
-            Some(Subject::Expression) => self.expressions.compare(report, body, tree, line),
-            Some(Subject::Later) => Ok(()),
-            None => report.unreadable(line),
+        match first_word(line) {
+            "scope" => self.scopes.compare(report, built.tree, line),
+            "entry" => self.entries.compare(report, built.tree, line),
+            "expr" => self.expressions.compare(report, built, line),
+            // Compared later.
+            "use" | "ownuse" | "look" | "ownlook" | "enter" | "tally" | "propose" => Ok(()),
+            _ => report.unreadable(line),
         }
     }
 
     // After the last line: what no line tells of, and how much was compared.
-    pub(crate) fn finish(
-        &mut self,
-        report: &mut Report,
-        body: &Body,
-        tree: &ExprScopes,
-    ) -> io::Result<Compared> {
-        self.scopes.finish(report, tree)?;
-        self.entries.finish(report, tree)?;
-        self.expressions.finish(report, body, tree)?;
+    pub(crate) fn finish(&mut self, report: &mut Report, built: Built) -> io::Result<Compared> {
+        self.scopes.finish(report, built.tree)?;
+        self.entries.finish(report, built.tree)?;
+        self.expressions.finish(report, built)?;
         Ok(Compared {
-            nodes: body.node_count(),
+            nodes: built.body.node_count(),
             scopes: self.scopes.seen(),
             entries: self.entries.own(),
             taken: self.entries.taken(),

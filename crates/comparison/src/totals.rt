@@ -7,7 +7,8 @@ use std::fmt;
 // From so many nodes on a sheet is a large one.
 const LARGE: usize = 200;
 
-// How many sheets of some kind there were.
+// How many sheets of some kind there were. Counts stop at their largest number, here and elsewhere by
+// `saturating_add` where they are added to: a type of counts would say no more.
 #[derive(Clone, Copy)]
 pub struct Sheets {
     all: u32,
@@ -20,6 +21,7 @@ pub struct Sheets {
 }
 
 impl Sheets {
+    // By hand: a struct with facts of its fields derives no `Default`.
     fn new() -> Sheets
         ensures nothing_counted { (result.all ≡ 0) × (result.large ≡ 0) × (result.with_taken ≡ 0) × (result.differ ≡ 0) }
     {
@@ -55,7 +57,7 @@ impl Sheets {
 }
 
 // How much was compared in all sheets.
-#[derive(Clone, Copy)]
+#[derive(Clone, Copy, Default)]
 pub struct Sums {
     scopes: u32,
     entries: u32,
@@ -64,17 +66,6 @@ pub struct Sums {
 }
 
 impl Sums {
-    fn new() -> Sums
-        ensures nothing_added { (result.scopes ≡ 0) × (result.entries ≡ 0) × (result.taken ≡ 0) × (result.expressions ≡ 0) }
-    {
-        Sums {
-            scopes: 0,
-            entries: 0,
-            taken: 0,
-            expressions: 0,
-        }
-    }
-
     fn add(&mut self, compared: Compared)
         ensures adds_the_scopes { self.new.scopes ≡ min (self.old.scopes + compared.scopes) 4294967295 }
         ensures adds_the_entries { self.new.entries ≡ min (self.old.entries + compared.entries) 4294967295 }
@@ -100,7 +91,7 @@ impl Totals {
     {
         Totals {
             sheets: Sheets::new(),
-            sums: Sums::new(),
+            sums: Sums::default(),
         }
     }
 

@@ -1,4 +1,1 @@
 pub mod Codes
-pub mod Firsts
-pub mod Ends
-pub mod Framed

@@ -1,10 +1,10 @@
 // The kinds of node, and the kind of a number and two fields.
-ghost use Rattle.format.specs.Kinds.{binding_from, block_from, kind_from, label_from, writes};
+ghost use Rattle.format.specs.Kinds.{kind_from, writes};
 ghost use Rattle.std.specs.Prelude.{◌≡◌, IfSome};
 
 use crate::ids::{BindingId, BlockId, HygieneId, LabelId, MacroId, Name};
 
-#[derive(Clone, Copy)]
+#[derive(Clone, Copy, PartialEq, Eq)]
 pub enum NodeKind {
     // Expressions.
     Leaf,
@@ -53,7 +53,7 @@ pub enum NodeKind {
 }
 
 // What a node is, whatever its kind.
-#[derive(Clone, Copy)]
+#[derive(Clone, Copy, PartialEq, Eq)]
 pub enum Sort {
     Expression,
     Pattern,
@@ -63,15 +63,16 @@ pub enum Sort {
     Body,
 }
 
-// What a place among a node's children admits: one sort, and whether the child may be absent.
-#[derive(Clone, Copy)]
+// What a place among a node's children admits: one sort, and whether the child may be absent. Both are
+// always there, so this is no option.
+#[derive(Clone, Copy, PartialEq, Eq)]
 pub struct Slot {
     pub sort: Sort,
     pub optional: bool,
 }
 
 // A node's record as the bytes have it.
-#[derive(Clone, Copy)]
+#[derive(Clone, Copy, PartialEq, Eq)]
 pub struct NodeRecord {
     pub code: u8,
     pub count: u16,
@@ -79,25 +80,8 @@ pub struct NodeRecord {
     pub b: u32,
 }
 
-fn block_id(n: u32) -> Option<BlockId>
-    ensures none_for_0 { result ≡ block_from n }
-{
-    if n == 0 { None } else { Some(BlockId(n)) }
-}
-
-fn label_id(n: u32) -> Option<LabelId>
-    ensures none_for_0 { result ≡ label_from n }
-{
-    if n == 0 { None } else { Some(LabelId(n)) }
-}
-
-fn binding_id(n: u32) -> Option<BindingId>
-    ensures none_for_0 { result ≡ binding_from n }
-{
-    if n == 0 { None } else { Some(BindingId(n)) }
-}
-
-// The only kind that a number and two fields can be the writing of.
+// The only kind that a number and two fields can be the writing of. Kinds have fields, so their
+// numbers are no discriminants. Not `TryFrom`: what the record says goes by its count and the sheet too.
 pub(crate) fn kind_from(code: u8, a: u32, b: u32) -> Option<NodeKind>
     ensures the_only_one { result ≡ kind_from code a b }
     ensures of_that_number { IfSome result (λ k. (writes k).code ≡ code) }
@@ -113,10 +97,12 @@ pub(crate) fn kind_from(code: u8, a: u32, b: u32) -> Option<NodeKind>
         5 => Some(NodeKind::If),
         6 => Some(NodeKind::Let),
         7 => Some(NodeKind::Block {
-            id: block_id(a),
-            label: label_id(b),
+            id: (a != 0).then_some(BlockId(a)),
+            label: (b != 0).then_some(LabelId(b)),
         }),
-        8 => Some(NodeKind::Loop { label: label_id(a) }),
+        8 => Some(NodeKind::Loop {
+            label: (a != 0).then_some(LabelId(a)),
+        }),
         9 => Some(NodeKind::Closure),
         10 => Some(NodeKind::Match),
         11 => Some(NodeKind::Const),
@@ -137,7 +123,7 @@ pub(crate) fn kind_from(code: u8, a: u32, b: u32) -> Option<NodeKind>
         43 => Some(NodeKind::OtherItem),
         50 => Some(NodeKind::Arm),
         60 => Some(NodeKind::Body {
-            self_binding: binding_id(a),
+            self_binding: (a != 0).then_some(BindingId(a)),
         }),
         _ => None,
     }

@@ -1,198 +1,73 @@
 // The rules of the format by kind of node.
-ghost use Rattle.std.specs.Prelude.{◌≡◌, ℕ, ◌+◌, ◌*◌, ◌%◌, ◌<◌, ◌≤◌};
-ghost use Rattle.format.specs.Kinds.{admits, arm_slot, binding_number, binding_of, binding_real, block_number, block_real, block_slot, closure_slot, count_suits, label_number, label_real, let_slot, named, pick, same_sort, slot_at, sort_number, sort_of, writes};
+ghost use Rattle.std.specs.Prelude.{◌≡◌, ℕ, ◌+◌, ◌*◌, ◌%◌, ◌<◌, ◌≤◌, true, false};
+ghost use Rattle.format.specs.Kinds.{admits, arm_slot, binding_of, block_slot, closure_slot, count_suits, let_slot, named, pick, slot, slot_at, sort_number, sort_of, writes};
 
-use crate::ids::{BindingId, BlockId, LabelId};
+use crate::ids::BindingId;
 use crate::kind::{NodeKind, Slot, Sort};
-
-fn block_number(id: Option<BlockId>) -> u32
-    ensures zero_for_none { result ≡ block_number id }
-{
-    match id {
-        Some(id) => id.0,
-        None => 0,
-    }
-}
-
-fn label_number(label: Option<LabelId>) -> u32
-    ensures zero_for_none { result ≡ label_number label }
-{
-    match label {
-        Some(label) => label.0,
-        None => 0,
-    }
-}
-
-fn binding_number(binding: Option<BindingId>) -> u32
-    ensures zero_for_none { result ≡ binding_number binding }
-{
-    match binding {
-        Some(binding) => binding.0,
-        None => 0,
-    }
-}
 
 fn is_binding(bindings: u32, binding: BindingId) -> bool
     ensures in_the_sheet { result ≡ binding_of bindings binding }
 {
-    binding.0 >= 1 && binding.0 <= bindings
-}
-
-fn block_is_real(id: Option<BlockId>) -> bool
-    ensures not_0 { result ≡ block_real id }
-{
-    match id {
-        Some(id) => id.0 >= 1,
-        None => true,
-    }
-}
-
-fn label_is_real(label: Option<LabelId>) -> bool
-    ensures not_0 { result ≡ label_real label }
-{
-    match label {
-        Some(label) => label.0 >= 1,
-        None => true,
-    }
-}
-
-fn binding_is_real(bindings: u32, binding: Option<BindingId>) -> bool
-    ensures in_the_sheet { result ≡ binding_real bindings binding }
-{
-    match binding {
-        Some(binding) => is_binding(bindings, binding),
-        None => true,
-    }
+    (1..=bindings).contains(&binding.0)
 }
 
 fn pick_slot(place: usize, first: Sort, rest: Sort) -> Slot
     ensures one_first_another_after { result ≡ pick place first rest }
 {
-    Slot {
-        sort: if place == 0 { first } else { rest },
-        optional: false,
-    }
+    Slot::required(if place == 0 { first } else { rest })
 }
 
 fn block_slot(place: usize) -> Slot
     ensures tail_then_statements { result ≡ block_slot place }
 {
-    if place == 0 {
-        Slot {
-            sort: Sort::Expression,
-            optional: true,
-        }
-    } else {
-        Slot {
-            sort: Sort::Statement,
-            optional: false,
-        }
+    match place {
+        0 => Slot::optional(Sort::Expression),
+        _ => Slot::required(Sort::Statement),
     }
 }
 
 fn closure_slot(place: usize) -> Slot
     ensures body_then_types_and_patterns { result ≡ closure_slot place }
 {
-    if place == 0 {
-        Slot {
-            sort: Sort::Expression,
-            optional: false,
-        }
-    } else if place % 2 == 1 {
-        Slot {
-            sort: Sort::Type,
-            optional: true,
-        }
-    } else {
-        Slot {
-            sort: Sort::Pattern,
-            optional: false,
-        }
+    match place {
+        0 => Slot::required(Sort::Expression),
+        _ if place % 2 == 1 => Slot::optional(Sort::Type),
+        _ => Slot::required(Sort::Pattern),
     }
 }
 
 fn let_slot(place: usize) -> Slot
     ensures pattern_then_the_rest { result ≡ let_slot place }
 {
-    if place == 0 {
-        Slot {
-            sort: Sort::Pattern,
-            optional: false,
-        }
-    } else {
-        Slot {
-            sort: if place == 1 {
-                Sort::Type
-            } else {
-                Sort::Expression
-            },
-            optional: true,
-        }
+    match place {
+        0 => Slot::required(Sort::Pattern),
+        1 => Slot::optional(Sort::Type),
+        _ => Slot::optional(Sort::Expression),
     }
 }
 
 fn arm_slot(place: usize) -> Slot
     ensures pattern_guard_expression { result ≡ arm_slot place }
 {
-    if place == 0 {
-        Slot {
-            sort: Sort::Pattern,
-            optional: false,
-        }
-    } else {
-        Slot {
-            sort: Sort::Expression,
-            optional: place == 1,
-        }
+    match place {
+        0 => Slot::required(Sort::Pattern),
+        1 => Slot::optional(Sort::Expression),
+        _ => Slot::required(Sort::Expression),
     }
 }
 
 impl NodeKind {
-    // The kind's number in a sheet.
-    pub(crate) fn code(self) -> u8
-        ensures is_written_so { result ≡ (writes self).code }
-    {
-        match self {
-            NodeKind::Leaf => 1,
-            NodeKind::Use { .. } => 2,
-            NodeKind::Sequence => 3,
-            NodeKind::And => 4,
-            NodeKind::If => 5,
-            NodeKind::Let => 6,
-            NodeKind::Block { .. } => 7,
-            NodeKind::Loop { .. } => 8,
-            NodeKind::Closure => 9,
-            NodeKind::Match => 10,
-            NodeKind::Const => 11,
-            NodeKind::Repeat => 12,
-            NodeKind::Cast => 13,
-            NodeKind::LeafPattern => 20,
-            NodeKind::Bind { .. } => 21,
-            NodeKind::Patterns => 22,
-            NodeKind::ValuePattern => 23,
-            NodeKind::LeafType => 30,
-            NodeKind::Types => 31,
-            NodeKind::ArrayType => 32,
-            NodeKind::LetStatement => 40,
-            NodeKind::ExprStatement => 41,
-            NodeKind::MacroDef { .. } => 42,
-            NodeKind::OtherItem => 43,
-            NodeKind::Arm => 50,
-            NodeKind::Body { .. } => 60,
-        }
-    }
-
     // Field a as a sheet writes it.
     pub(crate) fn field_a(self) -> u32
         ensures is_written_so { result ≡ (writes self).a }
     {
         match self {
             NodeKind::Use { name, .. } => name.0,
-            NodeKind::Block { id, .. } => block_number(id),
-            NodeKind::Loop { label } => label_number(label),
+            NodeKind::Block { id, .. } => id.map_or(0, |id| id.0),
+            NodeKind::Loop { label } => label.map_or(0, |label| label.0),
             NodeKind::Bind { binding } => binding.0,
             NodeKind::MacroDef { id } => id.0,
-            NodeKind::Body { self_binding } => binding_number(self_binding),
+            NodeKind::Body { self_binding } => self_binding.map_or(0, |binding| binding.0),
             _ => 0,
         }
     }
@@ -203,7 +78,7 @@ impl NodeKind {
     {
         match self {
             NodeKind::Use { hygiene, .. } => hygiene.0,
-            NodeKind::Block { label, .. } => label_number(label),
+            NodeKind::Block { label, .. } => label.map_or(0, |label| label.0),
             _ => 0,
         }
     }
@@ -214,11 +89,14 @@ impl NodeKind {
     {
         match self {
             NodeKind::Use { name, .. } => name.0 >= 1,
-            NodeKind::Block { id, label } => block_is_real(id) && label_is_real(label),
-            NodeKind::Loop { label } => label_is_real(label),
+            NodeKind::Block { id, label } => id.is_none_or(|id| id.0 >= 1)
+                && label.is_none_or(|label| label.0 >= 1),
+            NodeKind::Loop { label } => label.is_none_or(|label| label.0 >= 1),
             NodeKind::Bind { binding } => is_binding(bindings, binding),
             NodeKind::MacroDef { id } => id.0 >= 1,
-            NodeKind::Body { self_binding } => binding_is_real(bindings, self_binding),
+            NodeKind::Body { self_binding } => self_binding.is_none_or(|binding| is_binding(
+                bindings, binding,
+            )),
             _ => true,
         }
     }
@@ -269,10 +147,7 @@ impl NodeKind {
         ensures by_the_kind { result ≡ slot_at self place }
     {
         match self {
-            NodeKind::If => Slot {
-                sort: Sort::Expression,
-                optional: place == 2,
-            },
+            NodeKind::If if place == 2 => Slot::optional(Sort::Expression),
             NodeKind::Let => pick_slot(place, Sort::Pattern, Sort::Expression),
             NodeKind::Block { .. } => block_slot(place),
             NodeKind::Closure => closure_slot(place),
@@ -280,52 +155,50 @@ impl NodeKind {
             NodeKind::Cast => pick_slot(place, Sort::Expression, Sort::Type),
             NodeKind::ArrayType => pick_slot(place, Sort::Type, Sort::Expression),
             NodeKind::Body { .. } => pick_slot(place, Sort::Expression, Sort::Pattern),
-            NodeKind::Bind { .. } | NodeKind::Patterns => Slot {
-                sort: Sort::Pattern,
-                optional: false,
-            },
-            NodeKind::Types => Slot {
-                sort: Sort::Type,
-                optional: false,
-            },
+            NodeKind::Bind { .. } | NodeKind::Patterns => Slot::required(Sort::Pattern),
+            NodeKind::Types => Slot::required(Sort::Type),
             NodeKind::LetStatement => let_slot(place),
             NodeKind::Arm => arm_slot(place),
-            _ => Slot {
-                sort: Sort::Expression,
-                optional: false,
-            },
+            _ => Slot::required(Sort::Expression),
         }
     }
 }
 
 impl Sort {
+    // Tells it from the others. Not `From`: the call says which number.
     pub fn number(self) -> u8
         ensures tells_it_from_the_others { result ≡ sort_number self }
     {
-        match self {
-            Sort::Expression => 0,
-            Sort::Pattern => 1,
-            Sort::Type => 2,
-            Sort::Statement => 3,
-            Sort::Arm => 4,
-            Sort::Body => 5,
-        }
-    }
-
-    pub fn is(self, other: Sort) -> bool
-        ensures the_same_sort { result ≡ same_sort self other }
-    {
-        self.number() == other.number()
+        self as u8
     }
 }
 
+// Two functions and not one that takes the flag: a call then says which of the two the place asks.
 impl Slot {
+    fn required(sort: Sort) -> Slot
+        ensures may_not_be_absent { result ≡ slot sort false }
+    {
+        Slot {
+            sort,
+            optional: false,
+        }
+    }
+
+    fn optional(sort: Sort) -> Slot
+        ensures may_be_absent { result ≡ slot sort true }
+    {
+        Slot {
+            sort,
+            optional: true,
+        }
+    }
+
     // Whether the place admits a child of a sort, or an absent one.
     pub fn admits(self, child: Option<Sort>) -> bool
         ensures its_sort_or_absent { result ≡ admits self child }
     {
         match child {
-            Some(sort) => sort.is(self.sort),
+            Some(sort) => sort == self.sort,
             None => self.optional,
         }
     }

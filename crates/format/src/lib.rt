@@ -1,13 +1,8 @@
-// The body sheet as a format: its numbers, the kinds of node, the refusals of its reader, and its
-// sections as parts of the caller's bytes.
+// What a body is written with: its numbers, the kinds of node, and the record of a node.
 #![tactic(auto)]
 
-pub mod bytes;
-pub mod fault;
 pub mod ids;
 pub mod kind;
 pub mod kind_rules;
 pub mod node_id;
 pub mod record;
-pub mod section;
-pub mod split;

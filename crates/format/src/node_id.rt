@@ -1,6 +1,6 @@
 // Node numbers as they are read and told.
 ghost use Rattle.format.specs.Ids.{node_from, number_of};
-ghost use Rattle.std.specs.Prelude.{◌≡◌};
+ghost use Rattle.std.specs.Prelude.{◌≡◌, ◌-◌};
 
 use crate::ids::NodeId;
 
@@ -9,11 +9,19 @@ impl NodeId {
     pub fn new(number: u16) -> Option<NodeId>
         ensures names_that_number { number_of result ≡ node_from number }
     {
-        if number >= 1 && number <= 512 {
+        // Tried with `then`: its closure does not know that the number is one that a node has.
+        if (1..=512).contains(&number) {
             Some(NodeId { raw: number })
         } else {
             None
         }
+    }
+
+    // Its place from 0 among the nodes of a body.
+    pub fn index(self) -> usize
+        ensures is_one_less { result ≡ self.raw - 1 }
+    {
+        usize::from(self.raw) - 1
     }
 
     pub fn number(self) -> u16

@@ -12,17 +12,11 @@ impl NodeRecord {
         ensures says_it_or_says_none { MatchOption result ((k : AnyKind) → Says bindings self k → ⊥) (λ k. Says bindings self k) }
         ensures says_one_at_the_most { SaysOne }
     {
-        let Some(kind) = kind_from(self.code, self.a, self.b) else {
-            return None;
-        };
-        if kind.field_a() == self.a
+        let kind = kind_from(self.code, self.a, self.b)?;
+        let is_said = kind.field_a() == self.a
             && kind.field_b() == self.b
             && kind.is_named(bindings)
-            && kind.count_fits(self.count)
-        {
-            Some(kind)
-        } else {
-            None
-        }
+            && kind.count_fits(self.count);
+        is_said.then_some(kind)
     }
 }

@@ -2,3 +2,4 @@ pub mod Firsts
 pub mod Starts
 pub mod Framed
 pub mod Readers
+pub mod InOrder

@@ -1,5 +1,6 @@
 -- Where the sections begin and end.
-use Rattle.std.proofs.Common.{◌≡◌, ℕ, zero, suc, ◌+◌, ◌-◌, ◌<◌, ◌≤◌, List, length, get_or, sym, refl, ap, ◌∙◌, subst, add-one, arith}
+use Rattle.std.proofs.Common.{◌≡◌, ℕ, zero, suc, ◌+◌, ◌-◌, ◌<◌, ◌≤◌, List, length, get_or, take, sym, refl, ap, ◌∙◌, subst, add-one, arith}
+use Rattle.std.proofs.lemmas.List.{get_or-take}
 use Rattle.framing.specs.declared.fault.Part.{Part}
 use Rattle.framing.specs.declared.fault.Part.TheVariants as P
 use Rattle.framing.specs.declared.sheet_format.SheetFormat.{SheetFormat}
@@ -39,6 +40,12 @@ module _ (bs : List ℕ) (plan : List Part) where
   pub start_more : (i : ℕ) → start_at bs plan (i + 1) ≡ end_from bs (start_at bs plan i) (width_of (get_or plan i P.Whole))
   unfolding start_at
   start_more i = rw add-one
+
+  -- the sections before one are enough to say where it begins
+  pub start_in_front : (n i : ℕ) → i ≤ n → start_at bs (take n plan) i ≡ start_at bs plan i
+  unfolding start_at
+  start_in_front n zero h = refl
+  start_in_front n (suc i) h = rw (start_in_front n i (omega arith), get_or-take n plan i P.Whole (omega arith)) refl
 
   -- later sections begin later
   start_on : (i d : ℕ) → start_at bs plan i ≤ start_at bs plan (i + d)

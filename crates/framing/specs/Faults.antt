@@ -48,3 +48,17 @@ pub record First (cause : Causes) (f : Fault) : Type 0 where
 -- no cause applies
 abbrev pub NoneApply : Causes → Type 0
 NoneApply cause = (r : Refusal) (p : Part) (k : ℕ) → cause r p k → ⊥
+
+-- refusal r at part p, record k comes before the fault by the numbers that are told: the number of the refusal is lower, or it is the same refusal and the number of the part is lower, or that is the same and the record's is lower
+abbrev pub SoonerByNumber : Refusal → Part → ℕ → Fault → Type 0
+SoonerByNumber r p k f =
+    (refusal_number r < refusal_number f.refusal) ⊎
+    ((r ≡ f.refusal) × ((part_number p < part_number f.part) ⊎ ((part_number p ≡ part_number f.part) × (k < f.record))))
+
+-- no cause that applies comes before the fault
+abbrev pub FirstByNumber : Causes → Fault → Type 0
+FirstByNumber cause f = (r : Refusal) (p : Part) (k : ℕ) → SoonerByNumber r p k f → cause r p k → ⊥
+
+-- THE LAW OF ORDER: a fault that tells the first cause tells the first by the numbers. Sections of two formats share a number, but no two of one sheet do
+abbrev pub InOrderOfNumbers : Causes → Type 0
+InOrderOfNumbers cause = (f : Fault) → First cause f → FirstByNumber cause f

@@ -3,8 +3,6 @@ use Rattle.std.specs.Prelude.{◌≡◌, ℕ, ◌*◌, ◌/◌, List, length}
 use Rattle.framing.specs.declared.section.Section.{Section}
 use Rattle.framing.specs.declared.section.Section.TheVariants as X
 use Rattle.framing.specs.declared.section.Sheet.{Sheet}
-use Rattle.framing.specs.declared.section.ItemSection.{ItemSection}
-use Rattle.framing.specs.declared.section.ItemSection.TheVariants as Y
 use Rattle.framing.specs.declared.section.ItemSections.{ItemSections}
 use Rattle.framing.specs.declared.fault.Part.{Part}
 use Rattle.framing.specs.declared.fault.Part.TheVariants as P
@@ -20,29 +18,22 @@ bytes_of (X.Nodes b) = b.now
 bytes_of (X.Children b) = b.now
 bytes_of (X.Bindings b) = b.now
 bytes_of (X.Frames b) = b.now
+bytes_of (X.Items b) = b.now
+bytes_of (X.Constants b) = b.now
+bytes_of (X.Expansions b) = b.now
 
 abbrev pub part_of : Section → Part
 part_of (X.Nodes b) = P.Nodes
 part_of (X.Children b) = P.Children
 part_of (X.Bindings b) = P.Bindings
 part_of (X.Frames b) = P.Frames
-
-abbrev pub item_bytes_of : ItemSection → List ℕ
-item_bytes_of (Y.Items b) = b.now
-item_bytes_of (Y.Constants b) = b.now
-item_bytes_of (Y.Expansions b) = b.now
-
-abbrev pub item_part_of : ItemSection → Part
-item_part_of (Y.Items b) = P.Items
-item_part_of (Y.Constants b) = P.Constants
-item_part_of (Y.Expansions b) = P.Expansions
+part_of (X.Items b) = P.Items
+part_of (X.Constants b) = P.Constants
+part_of (X.Expansions b) = P.Expansions
 
 -- how many records a section has
 abbrev pub records_of : Section → ℕ
 records_of x = length (bytes_of x) / width_of (part_of x)
-
-abbrev pub item_records_of : ItemSection → ℕ
-item_records_of x = length (item_bytes_of x) / width_of (item_part_of x)
 
 -- xs, handed out as section q, are the records of section p of the bytes bs, as many as it says and within its limits
 pub record Holds (bs : List ℕ) (p q : Part) (xs : List ℕ) : Type 0 where
@@ -63,6 +54,6 @@ pub record Framed (bs : List ℕ) (t : Sheet) : Type 0 where
 -- an item sheet whose records can be read
 pub record FramedItems (bs : List ℕ) (t : ItemSections) : Type 0 where
   pub no_cause : NoneApply (Framing F.Items bs)
-  pub items_are : Holds bs P.Items (item_part_of t.items) (item_bytes_of t.items)
-  pub constants_are : Holds bs P.Constants (item_part_of t.constants) (item_bytes_of t.constants)
-  pub expansions_are : Holds bs P.Expansions (item_part_of t.expansions) (item_bytes_of t.expansions)
+  pub items_are : Holds bs P.Items (part_of t.items) (bytes_of t.items)
+  pub constants_are : Holds bs P.Constants (part_of t.constants) (bytes_of t.constants)
+  pub expansions_are : Holds bs P.Expansions (part_of t.expansions) (bytes_of t.expansions)

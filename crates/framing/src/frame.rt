@@ -10,28 +10,14 @@ use crate::bytes::{u16_at, u32_at};
 use crate::fault::{Fault, Part, Refusal};
 use crate::sheet_format::SheetFormat;
 
-// A refusal of a part, where no record fits.
-fn refused(refusal: Refusal, part: Part) -> Fault
-    ensures at_no_record { NoRecord refusal part result }
-{
-    Fault {
-        refusal,
-        part,
-        record: 0,
-    }
-}
-
 // Refusal 1.
 fn check_version(bytes: &[u8]) -> Result<(), Fault>
     ensures version_1_or_refused { MatchResult result
         (λ _. Version1 bytes.now)
         (λ f. NoRecord Refusal.Version Part.Whole f × (Version1 bytes.now → ⊥)) }
 {
-    if bytes.len() < 1 {
-        return Err(refused(Refusal::Version, Part::Whole));
-    }
-    if bytes[0] != 1 {
-        return Err(refused(Refusal::Version, Part::Whole));
+    if bytes.first() != Some(&1) {
+        return Err(Fault::of_part(Refusal::Version, Part::Whole));
     }
     Ok(())
 }
@@ -44,11 +30,11 @@ fn end_of(bytes: &[u8], at: usize, part: Part) -> Result<usize, Fault>
         (λ f. NoRecord Refusal.Length part f × (length bytes.now < end_from bytes.now at (width_of part))) }
 {
     if bytes.len() - at < 2 {
-        return Err(refused(Refusal::Length, part));
+        return Err(Fault::of_part(Refusal::Length, part));
     }
-    let size = part.width() * (u16_at(bytes, at) as usize);
+    let size = part.limits().width * usize::from(u16_at(bytes, at));
     if bytes.len() - at - 2 < size {
-        return Err(refused(Refusal::Length, part));
+        return Err(Fault::of_part(Refusal::Length, part));
     }
     Ok(at + 2 + size)
 }
@@ -60,32 +46,35 @@ fn check_length(format: SheetFormat, bytes: &[u8]) -> Result<(), Fault>
         (FirstOf (Framing format bytes.now) Refusal.Length) }
 {
     if bytes.len() < 5 {
-        return Err(refused(Refusal::Length, Part::Whole));
+        return Err(Fault::of_part(Refusal::Length, Part::Whole));
     }
     if bytes.len() - 5 != u32_at(bytes, 1) as usize {
-        return Err(refused(Refusal::Length, Part::Whole));
+        return Err(Fault::of_part(Refusal::Length, Part::Whole));
     }
     let mut at = 5;
     for part in format.plan() {
         at = end_of(bytes, at, *part)?;
     }
     if at < bytes.len() {
-        return Err(refused(Refusal::Length, Part::Whole));
+        return Err(Fault::of_part(Refusal::Length, Part::Whole));
     }
     Ok(())
 }
 
-// Where a section begins, in a sheet whose sections all end within the bytes.
+// Where a section begins, in a sheet whose sections all end within the bytes. That the part is a section,
+// and that all end within, is asked here and of two more: a type for a sheet that is cut so far would ask
+// of each that the part is one of its format, which is no less.
 fn start_of(bytes: &[u8], part: Part) -> usize
     requires is_a_section { 1 ≤ part_number part }
     requires all_end_within { last_end bytes.now (format_of part) ≤ length bytes.now }
     ensures is_its_start { result ≡ start_of bytes.now part }
     ensures its_records_follow { result + 2 + width_of part * count_of bytes.now part ≤ length bytes.now }
 {
-    let plan = part.format().plan();
+    let before = part.number() as usize - 1;
     let mut at = 5;
-    for i in 0..part.number() as usize - 1 {
-        at += 2 + plan[i].width() * (u16_at(bytes, at) as usize);
+    for earlier in &part.format().plan()[..before] {
+        let width = earlier.limits().width;
+        at += 2 + width * usize::from(u16_at(bytes, at));
     }
     at
 }
@@ -98,12 +87,10 @@ fn check_count(bytes: &[u8], part: Part) -> Result<(), Fault>
         (λ _. CountFits bytes.now part)
         (λ f. NoRecord Refusal.Count part f × (CountFits bytes.now part → ⊥)) }
 {
-    let count = u16_at(bytes, start_of(bytes, part)) as usize;
-    if count < part.least() {
-        return Err(refused(Refusal::Count, part));
-    }
-    if count > part.most() {
-        return Err(refused(Refusal::Count, part));
+    let count = usize::from(u16_at(bytes, start_of(bytes, part)));
+    let limits = part.limits();
+    if !(limits.least..=limits.most).contains(&count) {
+        return Err(Fault::of_part(Refusal::Count, part));
     }
     Ok(())
 }
@@ -140,5 +127,5 @@ pub(crate) fn records<'a>(bytes: &'a [u8], part: Part) -> &'a [u8]
 {
     let start = start_of(bytes, part);
     let first = start + 2;
-    &bytes[first..first + part.width() * (u16_at(bytes, start) as usize)]
+    &bytes[first..first + part.limits().width * usize::from(u16_at(bytes, start))]
 }

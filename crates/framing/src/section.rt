@@ -1,16 +1,25 @@
 // The sections of a sheet, each handed out as a part of the caller's bytes.
 ghost use Rattle.std.specs.Prelude.{◌≡◌, ℕ, ◌+◌, ◌*◌, ◌/◌, ◌<◌, ◌≤◌, length};
-ghost use Rattle.framing.specs.Sections.{bytes_of, item_bytes_of, item_records_of, records_of};
+ghost use Rattle.framing.specs.Plans.{width_of};
+ghost use Rattle.framing.specs.Sections.{bytes_of, part_of, records_of};
 
-// A section of a body sheet, told by its kind, with the bytes of its records.
+use crate::fault::Part;
+
+// A section, told by its kind, with the bytes of its records: of a body sheet the first four, of an
+// item sheet the last three. The project wants a case for each, so that whoever takes a sheet apart
+// cannot hand over one section for another.
 #[derive(Clone, Copy)]
 pub enum Section<'a> {
     Nodes(&'a [u8]),
     Children(&'a [u8]),
     Bindings(&'a [u8]),
     Frames(&'a [u8]),
+    Items(&'a [u8]),
+    Constants(&'a [u8]),
+    Expansions(&'a [u8]),
 }
 
+// The sections of a body sheet.
 #[derive(Clone, Copy)]
 pub struct Sheet<'a> {
     pub nodes: Section<'a>,
@@ -19,19 +28,12 @@ pub struct Sheet<'a> {
     pub frames: Section<'a>,
 }
 
-// A section of an item sheet.
-#[derive(Clone, Copy)]
-pub enum ItemSection<'a> {
-    Items(&'a [u8]),
-    Constants(&'a [u8]),
-    Expansions(&'a [u8]),
-}
-
+// The sections of an item sheet.
 #[derive(Clone, Copy)]
 pub struct ItemSections<'a> {
-    pub items: ItemSection<'a>,
-    pub constants: ItemSection<'a>,
-    pub expansions: ItemSection<'a>,
+    pub items: Section<'a>,
+    pub constants: Section<'a>,
+    pub expansions: Section<'a>,
 }
 
 impl<'a> Section<'a> {
@@ -43,6 +45,24 @@ impl<'a> Section<'a> {
             Section::Children(b) => b,
             Section::Bindings(b) => b,
             Section::Frames(b) => b,
+            Section::Items(b) => b,
+            Section::Constants(b) => b,
+            Section::Expansions(b) => b,
+        }
+    }
+
+    fn part(&self) -> Part
+        ensures is_its_part { result ≡ part_of self.now }
+        ensures has_records { 0 < width_of result }
+    {
+        match *self {
+            Section::Nodes(_) => Part::Nodes,
+            Section::Children(_) => Part::Children,
+            Section::Bindings(_) => Part::Bindings,
+            Section::Frames(_) => Part::Frames,
+            Section::Items(_) => Part::Items,
+            Section::Constants(_) => Part::Constants,
+            Section::Expansions(_) => Part::Expansions,
         }
     }
 
@@ -50,34 +70,6 @@ impl<'a> Section<'a> {
     pub fn count(&self) -> usize
         ensures is_its_count { result ≡ records_of self.now }
     {
-        match *self {
-            Section::Nodes(b) => b.len() / 11,
-            Section::Children(b) => b.len() / 2,
-            Section::Bindings(b) => b.len() / 8,
-            Section::Frames(b) => b.len() / 5,
-        }
-    }
-}
-
-impl<'a> ItemSection<'a> {
-    pub fn bytes(&self) -> &'a [u8]
-        ensures are_its_records { result.now ≡ item_bytes_of self.now }
-    {
-        match *self {
-            ItemSection::Items(b) => b,
-            ItemSection::Constants(b) => b,
-            ItemSection::Expansions(b) => b,
-        }
-    }
-
-    // How many records it has.
-    pub fn count(&self) -> usize
-        ensures is_its_count { result ≡ item_records_of self.now }
-    {
-        match *self {
-            ItemSection::Items(b) => b.len() / 13,
-            ItemSection::Constants(b) => b.len() / 12,
-            ItemSection::Expansions(b) => b.len() / 16,
-        }
+        self.bytes().len() / self.part().limits().width
     }
 }

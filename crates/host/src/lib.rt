@@ -3,7 +3,7 @@
 
 pub mod hosts;
 pub mod item;
-pub mod names;
+mod names;
 pub mod no_macros;
 pub mod prelude;
 #[cfg(test)]

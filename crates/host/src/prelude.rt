@@ -1,38 +1,45 @@
 // Named items that count where a host has none.
 ghost use Rattle.host.specs.Added.{add_answer, after_adding, names_of, refusal_number};
 ghost use Rattle.host.specs.Names.{with_added};
-ghost use Rattle.std.specs.Prelude.{◌≡◌, []};
+ghost use Rattle.std.specs.Prelude.{◌≡◌, [], length};
 
 use crate::hosts::ItemHost;
-use crate::item::{ConstParamId, Item, Named, PlaceId};
-use crate::names::Names;
+use crate::item::{ConstParamId, Item, ItemId, ItemKind, MODULE, Named, PlaceId};
+use crate::names::first_named;
 use format::ids::{Name, OwnerId};
+use table::Table;
+
+const BLANK: Named = Named {
+    name: Name(0),
+    item: Item {
+        kind: ItemKind::Function,
+        id: ItemId(0),
+    },
+};
 
 // An item host over another, with up to 64 named items of its own, which count in the module where
 // the one below has none.
 #[derive(Drop)]
 pub struct Prelude<H> {
     below: H,
-    names: Names,
+    names: Table<Named, 64>,
 }
 
 // Why a name is not added.
-#[derive(Clone, Copy)]
+#[derive(Clone, Copy, PartialEq, Eq)]
 pub enum PreludeRefusal {
     // The prelude is full.
-    Full,
+    Full = 25,
     // The prelude has that name already.
-    NameTaken,
+    NameTaken = 26,
 }
 
 impl PreludeRefusal {
+    // Not `From`: the call says which number.
     pub fn number(self) -> u8
         ensures is_the_refusals_number { result ≡ refusal_number self }
     {
-        match self {
-            PreludeRefusal::Full => 25,
-            PreludeRefusal::NameTaken => 26,
-        }
+        self as u8
     }
 }
 
@@ -40,15 +47,11 @@ impl<H: ItemHost> ItemHost for Prelude<H> {
     ghost tables = { λ s. with_added (H.ItemHost.tables s.below) (names_of s.names) };
 
     fn item(&self, place: PlaceId, name: Name) -> Option<Item> {
-        match self.below.item(place, name) {
-            Some(item) => Some(item),
-            None => {
-                if place.0 == 0 {
-                    self.names.find(name)
-                } else {
-                    None
-                }
-            }
+        let below = self.below.item(place, name);
+        if place == MODULE {
+            below.or_else(|| first_named(self.names.as_slice(), name))
+        } else {
+            below
         }
     }
 
@@ -65,20 +68,20 @@ impl<H> Prelude<H> {
     {
         Prelude {
             below,
-            names: Names::new(),
+            names: Table::new(BLANK),
         }
     }
 
     // One named item more, or a refusal that changes nothing.
     pub fn add(&mut self, name: Name, item: Item) -> Result<(), PreludeRefusal>
-        ensures is_refused_where_full_or_taken { result ≡ add_answer (names_of self.old.names) self.old.names.count name }
+        ensures is_refused_where_full_or_taken { result ≡ add_answer (names_of self.old.names) (length (names_of self.old.names)) name }
         ensures leaves_just_that_name_more { names_of self.new.names ≡ after_adding result (names_of self.old.names) name item }
         ensures keeps_the_host_below { self.new.below ≡ self.old.below }
     {
-        if self.names.is_full() {
+        if self.names.len() == 64 {
             return Err(PreludeRefusal::Full);
         }
-        if let Some(_) = self.names.find(name) {
+        if first_named(self.names.as_slice(), name).is_some() {
             return Err(PreludeRefusal::NameTaken);
         }
         self.names.push(Named { name, item });

@@ -3,7 +3,7 @@ ghost use Rattle.std.specs.Prelude.{None};
 
 use crate::hosts::ItemHost;
 use crate::item::{ConstParamId, Item, ItemId, ItemKind, PlaceId};
-use crate::prelude::Prelude;
+use crate::prelude::{Prelude, PreludeRefusal};
 use format::ids::{Name, OwnerId};
 
 // A host that has nothing.
@@ -22,40 +22,35 @@ impl ItemHost for Nothing {
     }
 }
 
-// The number of the refusal, or 0.
-fn added(prelude: &mut Prelude<Nothing>, name: u32) -> u8 {
+fn add(prelude: &mut Prelude<Nothing>, name: u32) -> Result<(), PreludeRefusal> {
     let item = Item {
         kind: ItemKind::Static,
         id: ItemId(name),
     };
-    match prelude.add(Name(name), item) {
-        Ok(()) => 0,
-        Err(refusal) => refusal.number(),
-    }
+    prelude.add(Name(name), item)
 }
 
-// The number of the item that is found, or 0.
-fn found(prelude: &Prelude<Nothing>, place: u32, name: u32) -> u32 {
-    match prelude.item(PlaceId(place), Name(name)) {
-        Some(item) => item.id.0,
-        None => 0,
-    }
+fn found(prelude: &Prelude<Nothing>, place: u32, name: u32) -> Option<ItemId> {
+    let item = prelude.item(PlaceId(place), Name(name))?;
+    Some(item.id)
 }
 
 #[test]
 fn takes_64_names_and_no_more(rt: HostRuntime) {
     let mut prelude = Prelude::over(Nothing);
     for name in 3..66 {
-        assert_eq!(rt; added(&mut prelude, name), 0);
+        assert!(rt; add(&mut prelude, name) == Ok(()));
     }
     // At 63 names a name that is there is refused for that, at 64 because the prelude is full.
-    assert_eq!(rt; added(&mut prelude, 3), 26);
-    assert_eq!(rt; added(&mut prelude, 66), 0);
-    assert_eq!(rt; added(&mut prelude, 3), 25);
-    assert_eq!(rt; added(&mut prelude, 67), 25);
-    assert_eq!(rt; found(&prelude, 0, 66), 66);
-    assert_eq!(rt; found(&prelude, 0, 67), 0);
-    assert_eq!(rt; found(&prelude, 1, 66), 0);
+    assert!(rt; add(&mut prelude, 3) == Err(PreludeRefusal::NameTaken));
+    assert!(rt; add(&mut prelude, 66) == Ok(()));
+    assert!(rt; add(&mut prelude, 3) == Err(PreludeRefusal::Full));
+    assert!(rt; add(&mut prelude, 67) == Err(PreludeRefusal::Full));
+    assert_eq!(rt; PreludeRefusal::Full.number(), 25);
+    assert_eq!(rt; PreludeRefusal::NameTaken.number(), 26);
+    assert!(rt; found(&prelude, 0, 66) == Some(ItemId(66)));
+    assert!(rt; found(&prelude, 0, 67) == None);
+    assert!(rt; found(&prelude, 1, 66) == None);
     let below = prelude.into_below();
     assert!(rt; below.item(PlaceId(0), Name(66)).is_none());
 }

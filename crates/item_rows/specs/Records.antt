@@ -8,10 +8,6 @@ use Rattle.item_rows.specs.declared.rows.ItemRow.{ItemRow}
 use Rattle.item_rows.specs.declared.rows.ConstRow.{ConstRow}
 use Rattle.item_rows.specs.declared.rows.ExpansionRow.{ExpansionRow}
 
--- record i, of w bytes, is there
-abbrev pub There : ℕ → List ℕ → ℕ → Type 0
-There w xs i = w * i + w ≤ length xs
-
 -- item i: its place, its name, its kind and its number
 abbrev pub kind_code : List ℕ → ℕ → ℕ
 kind_code xs i = slice_index xs (13 * i + 8)

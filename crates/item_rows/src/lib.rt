@@ -3,8 +3,6 @@
 #![tactic(auto)]
 
 pub mod key;
-mod record;
 mod records;
 pub mod rows;
-mod section;
 pub mod tables;

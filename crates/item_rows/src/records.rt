@@ -1,63 +1,58 @@
-// The records of each section: refusal 8.
-ghost use Rattle.item_rows.specs.Records.{GoodConst, GoodExpansion, GoodItem, There, const_at, expansion_at, item_at, kind_from, macro_from};
+// The records of each section: refusal 8. Places are counted from the section's first byte, as the
+// definitions of the format count them: a slice for each record would have to be counted back.
+ghost use Rattle.item_rows.specs.Records.{GoodConst, GoodExpansion, GoodItem, const_at, expansion_at, item_at};
 ghost use Rattle.framing.specs.declared.fault.Part.TheVariants.{Constants, Expansions, Items};
+ghost use Rattle.framing.specs.declared.fault.Refusal.TheVariants.{ItemRecord};
+ghost use Rattle.std.proofs.Common.{lit<};
 ghost use Rattle.std.specs.Prelude.{◌≡◌};
 
-use crate::record::Record;
 use crate::rows::{ConstRow, ExpansionRow, ItemRow};
 use format::ids::{HygieneId, MacroId, Name, OwnerId};
 use framing::bytes::u32_at;
-use framing::fault::{Fault, Part, Refusal};
+use framing::fault::{Part, Refusal};
 use host::item::{ConstParamId, Item, ItemId, ItemKind, PlaceId};
-
-// The kind of a number from 1 to 5.
-fn kind_from(code: u8) -> ItemKind
-    ensures by_its_number { result ≡ kind_from code }
-{
-    match code {
-        1 => ItemKind::Function,
-        2 => ItemKind::Struct,
-        3 => ItemKind::Variant,
-        4 => ItemKind::Constant,
-        _ => ItemKind::Static,
-    }
-}
-
-fn macro_from(number: u32) -> Option<MacroId>
-    ensures none_for_0 { result ≡ macro_from number }
-{
-    if number == 0 {
-        None
-    } else {
-        Some(MacroId(number))
-    }
-}
+use reader::record::Record;
 
 impl Record for ItemRow {
-    ghost part = { Items };
+    const PART: Part = Part::Items;
 
-    ghost there = { There 13 };
+    ghost PART = { Items };
+
+    const REFUSAL: Refusal = Refusal::ItemRecord;
+
+    ghost REFUSAL = { ItemRecord };
+
+    const WIDTH: usize = 13;
+
+    ghost WIDTH = { 13 };
+
+    ghost has_bytes = { lit< tt };
+
+    const BLANK: ItemRow = ItemRow {
+        place: PlaceId(0),
+        name: Name(0),
+        item: Item {
+            kind: ItemKind::Function,
+            id: ItemId(0),
+        },
+    };
 
     ghost written = { item_at };
 
     ghost good = { GoodItem };
 
-    fn read(bytes: &[u8], i: usize) -> Result<ItemRow, Fault> {
+    fn read(bytes: &[u8], i: usize) -> Option<ItemRow> {
         let name = u32_at(bytes, 13 * i + 4);
-        let code = bytes[13 * i + 8];
+        let kind = ItemKind::try_from(bytes[13 * i + 8]).ok()?;
         let number = u32_at(bytes, 13 * i + 9);
-        if name < 3 || code < 1 || code > 5 || number < 1 {
-            return Err(Fault {
-                refusal: Refusal::ItemRecord,
-                part: Part::Items,
-                record: i as u16 + 1,
-            });
+        if name < 3 || number < 1 {
+            return None;
         }
-        Ok(ItemRow {
+        Some(ItemRow {
             place: PlaceId(u32_at(bytes, 13 * i)),
             name: Name(name),
             item: Item {
-                kind: kind_from(code),
+                kind,
                 id: ItemId(number),
             },
         })
@@ -65,26 +60,38 @@ impl Record for ItemRow {
 }
 
 impl Record for ConstRow {
-    ghost part = { Constants };
+    const PART: Part = Part::Constants;
 
-    ghost there = { There 12 };
+    ghost PART = { Constants };
+
+    const REFUSAL: Refusal = Refusal::ItemRecord;
+
+    ghost REFUSAL = { ItemRecord };
+
+    const WIDTH: usize = 12;
+
+    ghost WIDTH = { 12 };
+
+    ghost has_bytes = { lit< tt };
+
+    const BLANK: ConstRow = ConstRow {
+        owner: OwnerId(0),
+        name: Name(0),
+        param: ConstParamId(0),
+    };
 
     ghost written = { const_at };
 
     ghost good = { GoodConst };
 
-    fn read(bytes: &[u8], i: usize) -> Result<ConstRow, Fault> {
+    fn read(bytes: &[u8], i: usize) -> Option<ConstRow> {
         let owner = u32_at(bytes, 12 * i);
         let name = u32_at(bytes, 12 * i + 4);
         let number = u32_at(bytes, 12 * i + 8);
         if owner < 1 || name < 1 || number < 1 {
-            return Err(Fault {
-                refusal: Refusal::ItemRecord,
-                part: Part::Constants,
-                record: i as u16 + 1,
-            });
+            return None;
         }
-        Ok(ConstRow {
+        Some(ConstRow {
             owner: OwnerId(owner),
             name: Name(name),
             param: ConstParamId(number),
@@ -93,26 +100,40 @@ impl Record for ConstRow {
 }
 
 impl Record for ExpansionRow {
-    ghost part = { Expansions };
+    const PART: Part = Part::Expansions;
 
-    ghost there = { There 16 };
+    ghost PART = { Expansions };
+
+    const REFUSAL: Refusal = Refusal::ItemRecord;
+
+    ghost REFUSAL = { ItemRecord };
+
+    const WIDTH: usize = 16;
+
+    ghost WIDTH = { 16 };
+
+    ghost has_bytes = { lit< tt };
+
+    const BLANK: ExpansionRow = ExpansionRow {
+        context: HygieneId(0),
+        by: None,
+        parent: HygieneId(0),
+        opaque: HygieneId(0),
+    };
 
     ghost written = { expansion_at };
 
     ghost good = { GoodExpansion };
 
-    fn read(bytes: &[u8], i: usize) -> Result<ExpansionRow, Fault> {
+    fn read(bytes: &[u8], i: usize) -> Option<ExpansionRow> {
         let context = u32_at(bytes, 16 * i);
         if context < 1 {
-            return Err(Fault {
-                refusal: Refusal::ItemRecord,
-                part: Part::Expansions,
-                record: i as u16 + 1,
-            });
+            return None;
         }
-        Ok(ExpansionRow {
+        let by = u32_at(bytes, 16 * i + 4);
+        Some(ExpansionRow {
             context: HygieneId(context),
-            by: macro_from(u32_at(bytes, 16 * i + 4)),
+            by: (by != 0).then_some(MacroId(by)),
             parent: HygieneId(u32_at(bytes, 16 * i + 8)),
             opaque: HygieneId(u32_at(bytes, 16 * i + 12)),
         })

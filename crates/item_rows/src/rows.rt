@@ -3,7 +3,7 @@ ghost use Rattle.item_rows.specs.Rows.{const_key, expansion_key, item_key};
 
 use crate::key::{Key, Keyed};
 use format::ids::{HygieneId, MacroId, Name, OwnerId};
-use host::item::{ConstParamId, Item, ItemId, ItemKind, PlaceId};
+use host::item::{ConstParamId, Item, PlaceId};
 
 // An item that stands at a place under a name.
 #[derive(Clone, Copy)]
@@ -31,36 +31,11 @@ pub struct ExpansionRow {
     pub opaque: HygieneId,
 }
 
-pub const BLANK_ITEM: ItemRow = ItemRow {
-    place: PlaceId(0),
-    name: Name(0),
-    item: Item {
-        kind: ItemKind::Function,
-        id: ItemId(0),
-    },
-};
-
-pub const BLANK_CONST: ConstRow = ConstRow {
-    owner: OwnerId(0),
-    name: Name(0),
-    param: ConstParamId(0),
-};
-
-pub const BLANK_EXPANSION: ExpansionRow = ExpansionRow {
-    context: HygieneId(0),
-    by: None,
-    parent: HygieneId(0),
-    opaque: HygieneId(0),
-};
-
 impl Keyed for ItemRow {
     ghost filed = { item_key };
 
     fn key(&self) -> Key {
-        Key {
-            major: self.place.0,
-            minor: self.name.0,
-        }
+        Key::by_place(self.place, self.name)
     }
 }
 
@@ -68,10 +43,7 @@ impl Keyed for ConstRow {
     ghost filed = { const_key };
 
     fn key(&self) -> Key {
-        Key {
-            major: self.owner.0,
-            minor: self.name.0,
-        }
+        Key::by_owner(self.owner, self.name)
     }
 }
 
@@ -79,9 +51,6 @@ impl Keyed for ExpansionRow {
     ghost filed = { expansion_key };
 
     fn key(&self) -> Key {
-        Key {
-            major: self.context.0,
-            minor: 0,
-        }
+        Key::by_context(self.context)
     }
 }

@@ -15,13 +15,13 @@ use Rattle.items.specs.Under.{under}
 use Rattle.item_rows.specs.Rows.{by_context, by_owner, by_place, const_key, expansion_key, item_key}
 
 abbrev pub items_of : ItemSheet → List ItemRow
-items_of s = listed s.items
+items_of s = listed s.tables.items
 
 abbrev pub consts_of : ItemSheet → List ConstRow
-consts_of s = listed s.consts
+consts_of s = listed s.tables.consts
 
 abbrev pub expansions_of : ItemSheet → List ExpansionRow
-expansions_of s = listed s.expansions
+expansions_of s = listed s.tables.expansions
 
 abbrev pub item_in : Option ItemRow → Option Item
 item_in (Some x) = Some x.item

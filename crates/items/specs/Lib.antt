@@ -2,4 +2,4 @@ pub mod Under
 pub mod Held
 pub mod Steps
 pub mod Accepted
-pub mod Sorted
+pub mod Root

@@ -14,16 +14,15 @@ pub(crate) fn check_order<R: Keyed>(rows: &[R], part: Part) -> Result<(), Fault>
         (λ _. Rising (map R.Keyed.filed rows.now))
         (FirstUnsorted (map R.Keyed.filed rows.now) part) }
 {
-    for i in 1..rows.len() {
-        if !rows[i - 1].key().comes_before(rows[i].key()) {
-            return Err(Fault {
-                refusal: Refusal::KeyOrder,
-                part,
-                record: i as u16 + 1,
-            });
-        }
+    let unsorted = rows
+        .iter()
+        .zip(rows.iter().skip(1))
+        .position(|(row, next)| !row.key().comes_before(next.key()));
+    // No `map_or`: which answer is the refusal is plainer in a match.
+    match unsorted {
+        None => Ok(()),
+        Some(i) => Err(Fault::at_record(Refusal::KeyOrder, part, i + 1)),
     }
-    Ok(())
 }
 
 // Refusal 9 over all three tables, section after section.

@@ -1,6 +1,6 @@
 -- Every chain of scopes goes down to scope 1.
-use Rattle.std.proofs.Common.{◌≡◌, ℕ, zero, suc, ◌+◌, ◌-◌, ◌<◌, ◌≤◌, List, map, length, get_or, take, Some, None, Option, sym, refl, ap, ◌∙◌, subst, inl, inr, arith}
-use Rattle.std.proofs.lemmas.List.{get_or-take, length-map, length-take}
+use Rattle.std.proofs.Common.{◌≡◌, ℕ, zero, suc, ◌+◌, ◌-◌, ◌<◌, ◌≤◌, List, map, length, get_or, Some, None, Option, sym, refl, ap, ◌∙◌, subst, inl, inr, arith}
+use Rattle.std.proofs.lemmas.List.{length-map}
 use Rattle.std.proofs.lemmas.Bool.{cases_eq}
 use Rattle.format.specs.declared.ids.ScopeId.{ScopeId}
 use Rattle.reach.specs.declared.data.ScopeData.{ScopeData}
@@ -9,14 +9,12 @@ use Rattle.reach.specs.Law.{IsIn, OnChain, itself, outward, TreeOfScopes}
 use Rattle.reach.specs.Visit.{State}
 use Rattle.reach.proofs.Fold.{get_or_map_any}
 
-module _ (rs : List ScopeData) (m : ℕ) (slopes : Sloping rs m) (roots : Rooted rs m) (s : State) (is : s.scopes ≡ map bare_scope (take m rs)) (root : get_or s.scopes 0 no_scope ≡ no_scope) where
-  in_table : (c : ℕ) → IsIn s c → c ≤ m
-  in_table c h = omega (arith, h, ap length is, length-map (take m rs) bare_scope, length-take m rs)
+module _ (ss : List ScopeData) (slopes : Sloping ss) (roots : Rooted ss) (s : State) (is : s.scopes ≡ map bare_scope ss) (root : get_or s.scopes 0 no_scope ≡ no_scope) where
+  in_table : (c : ℕ) → IsIn s c → c ≤ length ss
+  in_table c h = omega (arith, h, ap length is, length-map ss bare_scope)
 
-  parent_in : (c : ℕ) → IsIn s c → (get_or s.scopes (c - 1) no_scope).parent ≡ (get_or rs (c - 1) blank_scope).parent
-  parent_in c h =
-      ap (λ q. (get_or q (c - 1) no_scope).parent) is ∙ (ap (λ r. r.parent) (get_or_map_any bare_scope (take m rs) (c - 1) blank_scope)
-      ∙ ap (λ r. r.parent) (get_or-take m rs (c - 1) blank_scope (omega (arith, h, in_table c h))))
+  parent_in : (c : ℕ) → IsIn s c → (get_or s.scopes (c - 1) no_scope).parent ≡ (get_or ss (c - 1) blank_scope).parent
+  parent_in c h = ap (λ q. (get_or q (c - 1) no_scope).parent) is ∙ ap (λ r. r.parent) (get_or_map_any bare_scope ss (c - 1) blank_scope)
 
   none_some : (p : ScopeId) → None ≡ Some p → ⊥
   none_some p h = let z : ◌≡◌ {A = ℕ} 0 1 = cc in absurd (omega arith)
@@ -24,7 +22,7 @@ module _ (rs : List ScopeData) (m : ℕ) (slopes : Sloping rs m) (roots : Rooted
   lower : (c : ℕ) (p : ScopeId) → IsIn s c → (get_or s.scopes (c - 1) no_scope).parent ≡ Some p → (0 < p.0) × (p.0 < c)
   lower c p h e =
       let n = ap parent_of (sym (parent_in c h) ∙ e) in
-      let lt : c - 1 < m = omega (arith, h, in_table c h) in
+      let lt : c - 1 < length ss = omega (arith, h, in_table c h) in
       elim (cases_eq (c - 1) 0) [
         | inl z ↦ absurd (none_some p (sym (ap (λ i. (get_or s.scopes i no_scope).parent) z ∙ ap (λ r. r.parent) root) ∙ e))
         | inr z ↦ (omega (arith, n, roots (c - 1) (omega (arith, z)) lt), omega (arith, n, slopes (c - 1) lt, h))

@@ -72,12 +72,12 @@ below_read x f b n i o e = get_or_map_any (of_child x (folded x f b)) (children_
 pub below_done : {X : Type 0} (x : X) (f : ℕ → NodeKind → List X → X) (b : Shape) (n i : ℕ) {r : Node} → r ≡ node_at b.nodes n → r.count ≤ i → drop i (below x f b n) ≡ []
 below_done x f b n i e h = drop_all i (below x f b n) (rw length-map (omega (arith, length-take (node_at b.nodes n).count (drop (node_at b.nodes n).first b.children), ap (λ r. r.count) e)))
 
-pub all_none : (vs : List Visit) (at : _) (s : State) → vs ≡ [] → all vs at s ≡ (s, at)
-unfolding all
-all_none vs at s e = rw e
+pub all_turn : (vs : List Visit) (i : ℕ) (at : Place) (s : State) → all (drop i vs) at s ≡ all (drop (i + 1) vs) (get_or vs i skip at s).1 (get_or vs i skip at s).0
+all_turn vs i at s = rw add-one (all_more vs i at s)
 
-pub all_step : (vs : List Visit) (i : ℕ) (at : Place) (s : State) {q : State} {p : Place} → get_or vs i skip at s ≡ (q, p) → all (drop i vs) at s ≡ all (drop (i + 1) vs) p q
-all_step vs i at s e = all_more vs i at s ∙ rw (e, add-one)
+pub all_end : (b : Shape) (n i : ℕ) (at : Place) (s : State) → (node_at b.nodes n).count ≤ i → all (drop i (visits b n)) at s ≡ (s, at)
+unfolding all
+all_end b n i at s h = rw (below_done skip step b n i refl h)
 
 pub total_step : (ws : List ℕ) (i : ℕ) → total (drop i ws) ≡ get_or ws i 0 + total (drop (i + 1) ws)
 total_step ws i = rw add-one (total_more ws i)
@@ -98,6 +98,9 @@ pairs_more (w ∷ []) zero = refl
 pairs_more (w ∷ (v ∷ ws)) zero = refl
 pairs_more (w ∷ ws) (suc i) = pairs_more ws i
 
+pub pairs_step : (ws : List ℕ) (i : ℕ) → total (others (drop i ws)) ≡ get_or ws i 0 + total (others (drop (i + 2) ws))
+pairs_step ws i = let e : i + 2 ≡ suc (suc i) = omega arith in rw e (pairs_more ws i)
+
 all_pairs_more : (vs : List Visit) (i : ℕ) (at : Place) (s : State) → all (others (drop i vs)) at s ≡ all (others (drop (suc (suc i)) vs)) (get_or vs i skip at s).1 (get_or vs i skip at s).0
 unfolding others all
 all_pairs_more [] zero at s = refl
@@ -105,9 +108,6 @@ all_pairs_more [] (suc i) at s = refl
 all_pairs_more (v ∷ []) zero at s = refl
 all_pairs_more (v ∷ (w ∷ vs)) zero at s = refl
 all_pairs_more (v ∷ vs) (suc i) at s = all_pairs_more vs i at s
-
-pub pairs_step : (ws : List ℕ) (i : ℕ) → total (others (drop i ws)) ≡ get_or ws i 0 + total (others (drop (i + 2) ws))
-pairs_step ws i = let e : i + 2 ≡ suc (suc i) = omega arith in rw e (pairs_more ws i)
 
 pub all_pairs_step : (vs : List Visit) (i : ℕ) (at : Place) (s : State) {q : State} {p : Place} → get_or vs i skip at s ≡ (q, p) → all (others (drop i vs)) at s ≡ all (others (drop (i + 2) vs)) p q
 all_pairs_step vs i at s f = let e : i + 2 ≡ suc (suc i) = omega arith in all_pairs_more vs i at s ∙ rw (f, e)
@@ -123,12 +123,12 @@ each_more [] (suc i) at s = refl
 each_more (v ∷ vs) zero at s = refl
 each_more (v ∷ vs) (suc i) at s = each_more vs i at s
 
-pub each_step : (vs : List Visit) (i : ℕ) (at : Place) (s : State) {q : State} {p : Place} → get_or vs i skip at s ≡ (q, p) → each (drop i vs) at s ≡ each (drop (i + 1) vs) at q
-each_step vs i at s e = each_more vs i at s ∙ rw (e, add-one)
+pub each_turn : (vs : List Visit) (i : ℕ) (at : Place) (s : State) → each (drop i vs) at s ≡ each (drop (i + 1) vs) at (get_or vs i skip at s).0
+each_turn vs i at s = rw add-one (each_more vs i at s)
 
-pub each_none : (vs : List Visit) (at : Place) (s : State) → vs ≡ [] → each vs at s ≡ s
+pub each_end : (b : Shape) (n i : ℕ) (at : Place) (s : State) → (node_at b.nodes n).count ≤ i → each (drop i (visits b n)) at s ≡ s
 unfolding each
-each_none vs at s e = rw e
+each_end b n i at s h = rw (below_done skip step b n i refl h)
 
 each_pairs_more : (vs : List Visit) (i : ℕ) (at : Place) (s : State) → each (others (drop i vs)) at s ≡ each (others (drop (suc (suc i)) vs)) at (get_or vs i skip at s).0
 unfolding others each
@@ -138,9 +138,9 @@ each_pairs_more (v ∷ []) zero at s = refl
 each_pairs_more (v ∷ (w ∷ vs)) zero at s = refl
 each_pairs_more (v ∷ vs) (suc i) at s = each_pairs_more vs i at s
 
-pub each_pairs_step : (vs : List Visit) (i : ℕ) (at : Place) (s : State) {q : State} {p : Place} → get_or vs i skip at s ≡ (q, p) → each (others (drop i vs)) at s ≡ each (others (drop (i + 2) vs)) at q
-each_pairs_step vs i at s f = let e : i + 2 ≡ suc (suc i) = omega arith in each_pairs_more vs i at s ∙ rw (f, e)
+pub pairs_turn : (vs : List Visit) (i : ℕ) (at : Place) (s : State) → each (others (drop i vs)) at s ≡ each (others (drop (i + 2) vs)) at (get_or vs i skip at s).0
+pairs_turn vs i at s = let e : i + 2 ≡ suc (suc i) = omega arith in rw e (each_pairs_more vs i at s)
 
-pub each_pairs_none : (vs : List Visit) (at : Place) (s : State) → vs ≡ [] → each (others vs) at s ≡ s
+pub pairs_end : (b : Shape) (n i : ℕ) (at : Place) (s : State) → (node_at b.nodes n).count ≤ i → each (others (drop i (visits b n))) at s ≡ s
 unfolding each others
-each_pairs_none vs at s e = rw e
+pairs_end b n i at s h = rw (below_done skip step b n i refl h)

@@ -14,9 +14,9 @@ use Rattle.sheet.specs.declared.body.Body.{Body as Sheet-body}
 use Rattle.sheet.specs.declared.node.Node.{Node}
 use Rattle.sheet.specs.Held.{tree_of}
 use Rattle.sheet.specs.Shape.{blank, times, total, child_at as sheet_child}
-use Rattle.sheet.specs.Tables.{listed}
+use Rattle.table.specs.Tables.{listed}
 use Rattle.sheet.proofs.Counts.{laid_within, total_more, total_whole}
-use Rattle.sheet.proofs.Listed.{listed_few}
+use Rattle.table.proofs.Listed.{listed_few}
 use Rattle.reach.specs.Held.{shape_of}
 use Rattle.reach.specs.Law.{TreeLaw}
 use Rattle.reach.specs.Once.{Once, children_to, numbers}

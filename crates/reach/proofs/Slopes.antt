@@ -1,34 +1,36 @@
-use Rattle.std.proofs.Common.{◌≡◌, ℕ, zero, suc, ◌+◌, ◌<◌, ◌≤◌, ◌≢◌, List, [], ◌∷◌, map, length, get_or, set, sym, refl, ap, subst, inl, inr, arith, below_more}
-use Rattle.std.proofs.lemmas.List.{get_or-set_same, get_or-set_other}
+use Rattle.std.proofs.Common.{◌≡◌, ℕ, zero, suc, ◌<◌, ◌≤◌, ◌≢◌, List, [], ◌∷◌, ◌++◌, map, length, get_or, set, sym, refl, ap, subst, inl, inr, arith, below_more}
+use Rattle.std.proofs.lemmas.List.{get_or_append_left, get_or_push, get_or-set_same, get_or-set_other, length_push, length-set}
 use Rattle.std.proofs.lemmas.Bool.{cases_eq}
 use Rattle.reach.specs.declared.data.ScopeData.{ScopeData}
 use Rattle.reach.specs.Blank.{blank_scope, parent_of, Sloping, Rooted}
 
-pub sloping_more : (rs : List ScopeData) (m : ℕ) (s : ScopeData) → m < length rs → Sloping rs m → parent_of s.parent ≤ m → Sloping (set rs m s) (m + 1)
-sloping_more rs m s l h p =
-    below_more (λ k. parent_of (get_or (set rs m s) k blank_scope).parent ≤ k) m
-    (λ k q. let ne : k ≢ m = omega arith in rw get_or-set_other (h k q))
-    (rw get_or-set_same p)
+pub sloping_more : (ss : List ScopeData) (s : ScopeData) → Sloping ss → parent_of s.parent ≤ length ss → Sloping (ss ++ (s ∷ []))
+sloping_more ss s h p k l =
+    below_more (λ k. parent_of (get_or (ss ++ (s ∷ [])) k blank_scope).parent ≤ k) (length ss)
+    (λ k q. subst (λ x. parent_of x.parent ≤ k) (sym (get_or_append_left ss (s ∷ []) blank_scope k q)) (h k q))
+    (subst (λ x. parent_of x.parent ≤ length ss) (sym (get_or_push ss s blank_scope (length ss) refl)) p)
+    k (omega (arith, length_push ss s))
 
-pub rooted_more : (rs : List ScopeData) (m : ℕ) (s : ScopeData) → m < length rs → Rooted rs m → 0 < parent_of s.parent → Rooted (set rs m s) (m + 1)
-rooted_more rs m s l h p k z q =
-    below_more (λ k. 0 < k → 0 < parent_of (get_or (set rs m s) k blank_scope).parent) m
-    (λ k q z. let ne : k ≢ m = omega arith in rw get_or-set_other (h k z q))
-    (λ z. rw get_or-set_same p) k q z
+pub rooted_more : (ss : List ScopeData) (s : ScopeData) → Rooted ss → 0 < parent_of s.parent → Rooted (ss ++ (s ∷ []))
+rooted_more ss s h p k z l =
+    below_more (λ k. 0 < k → 0 < parent_of (get_or (ss ++ (s ∷ [])) k blank_scope).parent) (length ss)
+    (λ k q z. subst (λ x. 0 < parent_of x.parent) (sym (get_or_append_left ss (s ∷ []) blank_scope k q)) (h k z q))
+    (λ z. subst (λ x. 0 < parent_of x.parent) (sym (get_or_push ss s blank_scope (length ss) refl)) p)
+    k (omega (arith, length_push ss s)) z
 
 -- another end of a scope's range leaves the tree as it is
-pub widened : (rs : List ScopeData) (m k : ℕ) (s : ScopeData) → k < length rs → s.parent ≡ (get_or rs k blank_scope).parent → Sloping rs m → Sloping (set rs k s) m
-widened rs m k s l e h j q =
+pub widened : (ss : List ScopeData) (k : ℕ) (s : ScopeData) → k < length ss → s.parent ≡ (get_or ss k blank_scope).parent → Sloping ss → Sloping (set ss k s)
+widened ss k s l e h j q =
     elim (cases_eq j k) [
-      | inl i ↦ subst (λ x. parent_of (get_or (set rs k s) x blank_scope).parent ≤ x) (sym i) (rw get_or-set_same (subst (λ y. parent_of y ≤ k) (sym e) (h k (omega arith))))
-      | inr n ↦ let ne : j ≢ k = n in rw get_or-set_other (h j q)
+      | inl i ↦ subst (λ x. parent_of (get_or (set ss k s) x blank_scope).parent ≤ x) (sym i) (rw get_or-set_same (subst (λ y. parent_of y ≤ k) (sym e) (h k l)))
+      | inr n ↦ let ne : j ≢ k = n in rw get_or-set_other (h j (omega (arith, length-set ss k s)))
     ]
 
-pub widened_root : (rs : List ScopeData) (m k : ℕ) (s : ScopeData) → k < length rs → s.parent ≡ (get_or rs k blank_scope).parent → Rooted rs m → Rooted (set rs k s) m
-widened_root rs m k s l e h j z q =
+pub widened_root : (ss : List ScopeData) (k : ℕ) (s : ScopeData) → k < length ss → s.parent ≡ (get_or ss k blank_scope).parent → Rooted ss → Rooted (set ss k s)
+widened_root ss k s l e h j z q =
     elim (cases_eq j k) [
-      | inl i ↦ subst (λ x. 0 < parent_of (get_or (set rs k s) x blank_scope).parent) (sym i) (rw get_or-set_same (subst (λ y. 0 < parent_of y) (sym e) (h k (omega arith) (omega arith))))
-      | inr n ↦ let ne : j ≢ k = n in rw get_or-set_other (h j z q)
+      | inl i ↦ subst (λ x. 0 < parent_of (get_or (set ss k s) x blank_scope).parent) (sym i) (rw get_or-set_same (subst (λ y. 0 < parent_of y) (sym e) (h k (omega arith) l)))
+      | inr n ↦ let ne : j ≢ k = n in rw get_or-set_other (h j z (omega (arith, length-set ss k s)))
     ]
 
 -- a list after a write that a function does not see

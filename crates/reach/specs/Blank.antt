@@ -1,5 +1,5 @@
 -- Blank records, and what a table of scopes keeps.
-use Rattle.std.specs.Prelude.{ℕ, ◌<◌, ◌≤◌, List, Some, None, Option, slice_index_or}
+use Rattle.std.specs.Prelude.{ℕ, ◌<◌, ◌≤◌, List, length, Some, None, Option, slice_index_or}
 use Rattle.format.specs.declared.ids.ScopeId.{ScopeId}
 use Rattle.reach.specs.declared.data.ScopeData.{ScopeData}
 use Rattle.reach.specs.declared.data.ScopeEntry.{ScopeEntry}
@@ -29,10 +29,10 @@ abbrev pub parent_of : Option ScopeId → ℕ
 parent_of None = 0
 parent_of (Some p) = p.0
 
--- each of the first m scopes has a parent numbered below it
-abbrev pub Sloping : List ScopeData → ℕ → Type 0
-Sloping rs m = (k : ℕ) → k < m → parent_of (slice_index_or rs k blank_scope).parent ≤ k
+-- each scope has a parent numbered below it
+abbrev pub Sloping : List ScopeData → Type 0
+Sloping ss = (k : ℕ) → k < length ss → parent_of (slice_index_or ss k blank_scope).parent ≤ k
 
 -- and scope 1 alone has none
-abbrev pub Rooted : List ScopeData → ℕ → Type 0
-Rooted rs m = (k : ℕ) → 0 < k → k < m → 0 < parent_of (slice_index_or rs k blank_scope).parent
+abbrev pub Rooted : List ScopeData → Type 0
+Rooted ss = (k : ℕ) → 0 < k → k < length ss → 0 < parent_of (slice_index_or ss k blank_scope).parent

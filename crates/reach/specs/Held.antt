@@ -1,6 +1,6 @@
 -- The nodes and children of a body, as lists.
 use Rattle.sheet.specs.declared.body.Body.{Body}
-use Rattle.sheet.specs.Tables.{listed}
+use Rattle.table.specs.Tables.{listed}
 use Rattle.reach.specs.Shape.{Shape}
 
 abbrev pub shape_of : Body → Shape

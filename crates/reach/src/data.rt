@@ -2,7 +2,7 @@
 use format::ids::{BindingId, BlockId, HygieneId, LabelId, MacroId, Name, ScopeId};
 
 // What made a scope.
-#[derive(Clone, Copy)]
+#[derive(Clone, Copy, PartialEq, Eq)]
 pub enum ScopeKind {
     Plain,
     // A block that may hold items.
@@ -13,8 +13,9 @@ pub enum ScopeKind {
     MacroDef(MacroId),
 }
 
-// A scope: its parent, what made it, and the range of the entry table in which its entries lie.
-#[derive(Clone, Copy)]
+// A scope: its parent, what made it, and the range of the entry table in which its entries lie. Parent and
+// range are numbers: the tables ask for no memory, and the ported crate has them so.
+#[derive(Clone, Copy, PartialEq, Eq)]
 pub struct ScopeData {
     pub parent: Option<ScopeId>,
     pub kind: ScopeKind,
@@ -24,7 +25,7 @@ pub struct ScopeData {
 
 // A name in a scope: the binding that it means, with that binding's name and hygiene, and the scope
 // that it belongs to.
-#[derive(Clone, Copy)]
+#[derive(Clone, Copy, PartialEq, Eq)]
 pub struct ScopeEntry {
     pub name: Name,
     pub hygiene: HygieneId,
@@ -33,7 +34,7 @@ pub struct ScopeEntry {
 }
 
 // Where a node is visited: the current scope, and the scope for types, lengths and constants.
-#[derive(Clone, Copy)]
+#[derive(Clone, Copy, PartialEq, Eq)]
 pub struct Place {
     pub current: ScopeId,
     pub constant: ScopeId,

@@ -1,7 +1,7 @@
 -- A reader's answer as the three numbers of a case, and the row of the summary that it counts in.
 use Rattle.std.specs.Prelude.{ℕ, Some, None, Option}
-use Rattle.format.specs.Faults.{part_number, refusal_number}
-use Rattle.format.specs.declared.fault.Fault.{Fault}
+use Rattle.framing.specs.Faults.{part_number, refusal_number}
+use Rattle.framing.specs.declared.fault.Fault.{Fault}
 use Rattle.refusals.specs.declared.answer.Answer.{Answer}
 
 -- three zeros for no fault

@@ -1,11 +1,10 @@
 // A case: a line of four words, the name of a sheet and the three numbers of its answer.
-ghost use Rattle.refusals.specs.Line.{Number, Numbers, States};
+ghost use Rattle.refusals.specs.Line.{Numbers, States};
 ghost use Rattle.std.specs.Prelude.{◌≡◌, IfSome};
-ghost use Rattle.std.specs.Str.Iter.{split_whitespace_rest};
-ghost use Rattle.std.specs.Str.Parse.{without_leading_plus, digits_value};
+ghost use Rattle.words.specs.Line.{Number, unread};
 
 use crate::answer::Answer;
-use std::str::SplitWhitespace;
+use words::Words;
 
 #[derive(Clone, Copy)]
 pub struct Case<'a> {
@@ -13,42 +12,25 @@ pub struct Case<'a> {
     pub expected: Answer,
 }
 
-fn number(word: &str) -> Option<u16>
-    ensures reads_digits { IfSome result (λ n. n ≡ digits_value 10 (without_leading_plus word.now)) }
+fn next_number(words: &mut Words) -> Option<u16>
+    ensures reads_the_next_word { IfSome result (λ n. Number (unread words.old) n (unread words.new)) }
 {
-    word.parse::<u16>().ok()
-}
-
-fn next_number(words: &mut SplitWhitespace) -> Option<u16>
-    ensures reads_the_next_word { IfSome result (λ n. Number (split_whitespace_rest words.old) n (split_whitespace_rest words.new)) }
-{
-    let Some(word) = words.next() else {
-        return None;
-    };
-    number(word)
+    u16::try_from(words.number()?).ok()
 }
 
 // The three numbers that end a line; none where a word more follows.
-fn last_numbers(mut words: SplitWhitespace) -> Option<Answer>
-    ensures reads_three_and_no_more { IfSome result (λ a. Numbers (split_whitespace_rest words.entry) a) }
+fn last_numbers(words: &mut Words) -> Option<Answer>
+    ensures reads_three_and_no_more { IfSome result (λ a. Numbers (unread words.old) a) }
 {
-    let Some(number) = next_number(&mut words) else {
-        return None;
-    };
-    let Some(section) = next_number(&mut words) else {
-        return None;
-    };
-    let Some(place) = next_number(&mut words) else {
-        return None;
-    };
-    match words.next() {
-        Some(_) => None,
-        None => Some(Answer {
-            number,
-            section,
-            place,
-        }),
-    }
+    let number = next_number(words)?;
+    let section = next_number(words)?;
+    let place = next_number(words)?;
+    words.end()?;
+    Some(Answer {
+        number,
+        section,
+        place,
+    })
 }
 
 impl Case<'_> {
@@ -56,13 +38,9 @@ impl Case<'_> {
     pub(crate) fn parse(line: &str) -> Option<Case<'_>>
         ensures is_what_the_line_states { IfSome result (λ c. States line.now c.name.now c.expected) }
     {
-        let mut words = line.split_whitespace();
-        let Some(name) = words.next() else {
-            return None;
-        };
-        let Some(expected) = last_numbers(words) else {
-            return None;
-        };
+        let mut words = Words::new(line);
+        let name = words.take()?;
+        let expected = last_numbers(&mut words)?;
         Some(Case { name, expected })
     }
 }

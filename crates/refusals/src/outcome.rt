@@ -5,7 +5,7 @@ ghost use Rattle.std.specs.Prelude.{◌≡◌, true, false, ◌≢◌};
 
 use crate::answer::{Answer, fault_of};
 use crate::case::Case;
-use format::fault::Fault;
+use framing::fault::Fault;
 use std::{fmt, io};
 
 #[derive(Drop)]
@@ -24,10 +24,7 @@ impl Outcome<'_> {
     pub(crate) fn agrees(&self) -> bool
         ensures in_one_way_only { elim self.now [ Agrees f ↦ result ≡ true | Differs c g ↦ result ≡ false | NoSheet c e ↦ result ≡ false | NoCase l ↦ result ≡ false ] }
     {
-        match self {
-            Outcome::Agrees(_) => true,
-            _ => false,
-        }
+        matches!(self, Outcome::Agrees(_))
     }
 }
 
@@ -36,7 +33,7 @@ pub(crate) fn compare<'a>(case: Case<'a>, bytes: &[u8]) -> Outcome<'a>
     ensures agrees_where_all_numbers_do { elim result [ Agrees f ↦ told f ≡ case.entry.expected | Differs c g ↦ (g ≢ case.entry.expected) | NoSheet c e ↦ ⊥ | NoCase l ↦ ⊥ ] }
 {
     let fault = fault_of(bytes);
-    let got = Answer::of(fault);
+    let got = Answer::from(fault);
     if got == case.expected {
         Outcome::Agrees(fault)
     } else {
@@ -48,7 +45,7 @@ impl fmt::Display for Outcome<'_> {
     fn fmt<W: fmt::Write>(&self, f: &mut fmt::Formatter<W>) -> fmt::Result {
         match self {
             Outcome::Agrees(fault) => {
-                let answer = Answer::of(*fault);
+                let answer = Answer::from(*fault);
                 write!(f, "as expected {answer}")
             }
             Outcome::Differs(case, got) => {

@@ -4,17 +4,20 @@ ghost use Rattle.refusals.specs.Told.{row_of};
 ghost use Rattle.refusals.specs.declared.outcome.Outcome.TheVariants.{Agrees, Differs, NoCase, NoSheet};
 
 use crate::outcome::Outcome;
-use format::fault::Fault;
+use framing::fault::Fault;
 use std::fmt;
 
 // A row for the accepted sheets, and one for each refusal.
-const ROWS: usize = 8;
+const ROWS: usize = 10;
+
+// Those of them that a body sheet can come to: refusals 8 and 9 are an item sheet's.
+const BODY_ROWS: usize = 8;
 
 #[derive(Drop)]
 pub struct Tally {
     cases: u32,
     differ: u32,
-    // The cases that agree, by the number of the refusal.
+    // The cases that agree, by the number of the refusal, of which there are so few that no map is needed.
     agree: [u32; ROWS],
     ghost no_more_than_all: { differ ≤ cases },
 }
@@ -22,15 +25,13 @@ pub struct Tally {
 // The row of the summary that an answer counts in.
 fn row(fault: Option<Fault>) -> usize
     ensures is_the_refusals_number { result ≡ row_of fault }
-    ensures is_a_row { result < 8 }
+    ensures is_a_row { result < 10 }
 {
-    match fault {
-        Some(fault) => usize::from(fault.refusal.number()),
-        None => 0,
-    }
+    fault.map_or(0, |fault| usize::from(fault.refusal.number()))
 }
 
 impl Tally {
+    // By hand: a struct with facts of its fields derives no `Default`.
     pub(crate) fn new() -> Tally
         ensures nothing_counted { (result.cases ≡ 0) × (result.differ ≡ 0) }
     {
@@ -60,7 +61,7 @@ impl Tally {
 
 impl fmt::Display for Tally {
     fn fmt<W: fmt::Write>(&self, f: &mut fmt::Formatter<W>) -> fmt::Result {
-        for (number, count) in self.agree.iter().enumerate() {
+        for (number, count) in self.agree[..BODY_ROWS].iter().enumerate() {
             match number {
                 0 => writeln!(f, "accepted {count}")?,
                 _ => writeln!(f, "refused {number}: {count}")?,

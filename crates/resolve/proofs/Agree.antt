@@ -50,10 +50,10 @@ module _ (W : ItemTables) (X : ExpansionTables) (T : Surroundings) (n : Name) (s
       }
 
       of : (k : ScopeKind) → kind ≡ k → ItemThere ⊎ ItemAbsent
-      of K.Plain e = other K.Plain e (λ b l z. let w : ◌≡◌ {A = ℕ} 0 1 = cc in omega arith) refl
+      of K.Plain e = other K.Plain e (λ b l z. cc) refl
       of (K.Block b l) e = in_the_block b l e (W.items (in_block b) n) refl
-      of (K.Label y) e = other (K.Label y) e (λ b l z. let w : ◌≡◌ {A = ℕ} 0 1 = cc in omega arith) refl
-      of (K.MacroDef m) e = other (K.MacroDef m) e (λ b l z. let w : ◌≡◌ {A = ℕ} 0 1 = cc in omega arith) refl
+      of (K.Label y) e = other (K.Label y) e (λ b l z. cc) refl
+      of (K.MacroDef m) e = other (K.MacroDef m) e (λ b l z. cc) refl
 
   -- a scope is the definition of the macro that the hygiene came from, or it is not
   module _ (x : Context) where
@@ -87,9 +87,9 @@ module _ (W : ItemTables) (X : ExpansionTables) (T : Surroundings) (n : Name) (s
             ]
 
         of : (k : ScopeKind) → kind ≡ k → Passing ⊎ Staying
-        of K.Plain e = other K.Plain e (λ m z. let w : ◌≡◌ {A = ℕ} 0 1 = cc in omega arith) refl
-        of (K.Block b l) e = other (K.Block b l) e (λ m z. let w : ◌≡◌ {A = ℕ} 0 1 = cc in omega arith) refl
-        of (K.Label y) e = other (K.Label y) e (λ m z. let w : ◌≡◌ {A = ℕ} 0 1 = cc in omega arith) refl
+        of K.Plain e = other K.Plain e (λ m z. cc) refl
+        of (K.Block b l) e = other (K.Block b l) e (λ m z. cc) refl
+        of (K.Label y) e = other (K.Label y) e (λ m z. cc) refl
         of (K.MacroDef m) e = at_macro m e x.outer refl
 
 module _ (W : ItemTables) (X : ExpansionTables) (T : Surroundings) (n : Name) where

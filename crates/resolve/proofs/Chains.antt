@@ -1,11 +1,11 @@
 -- The chain of scopes from one outward, and what is found along it.
-use Rattle.std.proofs.Common.{◌≡◌, ℕ, zero, suc, ◌-◌, ◌<◌, ◌≤◌, List, [], ◌∷◌, length, get_or, take, Some, Option, sym, refl, ap, ◌∙◌, inl, inr, arith}
-use Rattle.std.proofs.lemmas.List.{get_or-map, get_or-take, length-map, length-take-le}
+use Rattle.std.proofs.Common.{◌≡◌, ℕ, zero, suc, ◌-◌, ◌<◌, ◌≤◌, List, [], ◌∷◌, length, get_or, Some, Option, sym, refl, ap, ◌∙◌, inl, inr, arith}
+use Rattle.std.proofs.lemmas.List.{get_or-map, length-map}
 use Rattle.std.proofs.lemmas.Bool.{cases_eq, cases_lt, cond-true, cond-false, eq-eqb, ne_eqb}
 use Rattle.format.specs.declared.ids.ScopeId.{ScopeId}
 use Rattle.reach.specs.Bare.{Scope}
 use Rattle.reach.specs.Blank.{bare_scope, blank_scope, no_scope, parent_of}
-use Rattle.scope.specs.Queries.{IsScope, data_of}
+use Rattle.scope.specs.Queries.{IsScope, all_scopes, data_of}
 use Rattle.scope.specs.Told.{told}
 use Rattle.scope.specs.declared.tables.ExprScopes.{ExprScopes}
 use Rattle.resolve.specs.Outward.{chain, chain_from}
@@ -52,17 +52,16 @@ module _ (ss : List Scope) where
 
 -- the scopes of a tree
 module _ (t : ExprScopes) where
-  pub told_length : length (told t).scopes ≡ t.scopes.len
-  told_length = length-map (take t.scopes.len t.scopes.records) bare_scope ∙ length-take-le t.scopes.len t.scopes.records (omega (arith, t.scopes.whole, t.scopes.few))
+  pub told_length : length (told t).scopes ≡ length (all_scopes t)
+  told_length = length-map (all_scopes t) bare_scope
 
-  told_at : (k : ℕ) → k < t.scopes.len → get_or (told t).scopes k no_scope ≡ bare_scope (get_or t.scopes.records k blank_scope)
-  told_at k l =
-      get_or-map bare_scope (take t.scopes.len t.scopes.records) k blank_scope no_scope (omega (arith, length-take-le t.scopes.len t.scopes.records (omega (arith, t.scopes.whole, t.scopes.few)))) ∙ ap bare_scope (get_or-take t.scopes.len t.scopes.records k blank_scope l)
+  told_at : (k : ℕ) → k < length (all_scopes t) → get_or (told t).scopes k no_scope ≡ bare_scope (get_or (all_scopes t) k blank_scope)
+  told_at k l = get_or-map bare_scope (all_scopes t) k blank_scope no_scope l
 
   pub told_scope : (s : ScopeId) → IsScope t s → get_or (told t).scopes (s.0 - 1) no_scope ≡ bare_scope (data_of t s)
   told_scope s h = told_at (s.0 - 1) (omega (arith, h))
 
   pub told_below : Below (told t).scopes
   told_below k l =
-      let m : k < t.scopes.len = omega (arith, told_length) in
-      omega (arith, t.scopes.sloping k m, ap (λ d. parent_of d.parent) (told_at k m))
+      let m : k < length (all_scopes t) = omega (arith, told_length) in
+      omega (arith, t.tables.scopes.sloping k m, ap (λ d. parent_of d.parent) (told_at k m))

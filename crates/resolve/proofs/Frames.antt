@@ -16,7 +16,7 @@ use Rattle.resolve.specs.Outward.{frame_answer, in_block, in_module, item_at, no
 use Rattle.resolve.specs.Hits.{Gives, impl_itself, impl_parameter, parameter, block_item, SilentFrom, Outside, in_frame, in_the_module, nowhere}
 
 pub never : {A Y : Type 0} (y : Y) (o : Option Y) → o ≡ None → o ≡ Some y → A
-never y o p q = absurd (let k : ◌≡◌ {A = ℕ} 0 1 = cc in omega arith)
+never y o p q = absurd cc
 
 -- the last of a list's first m that answers
 module _ {X Y : Type 0} (f : X → Option Y) (d : X) (xs : List X) where
@@ -82,6 +82,11 @@ module _ {X Y : Type 0} (f : X → Option Y) (d : X) (xs : List X) where
       of : (o : Option Y) → back m ≡ o → o ≡ None
       of None e = refl
       of (Some z) e = let r = back_some m z l e in never z _ (n r.place r.there) r.gives
+
+-- the innermost of the frames that are left is asked, and then those further out
+pub frames_step : (W : ItemTables) (n : Name) (fs : List Frame) (i : ℕ) → 0 < i → i ≤ length fs →
+    first (frame_answer W n) (reverse (take i fs)) ≡ or_else (frame_answer W n (get_or fs (i - 1) no_frame)) (first (frame_answer W n) (reverse (take (i - 1) fs)))
+frames_step W n fs i p h = back_step (frame_answer W n) fs i no_frame p h
 
 module _ (W : ItemTables) (n : Name) where
   -- what a host has is what it is found to mean

@@ -1,5 +1,5 @@
 -- Hygiene of names that a macro wrote.
-use Rattle.std.proofs.Common.{◌≡◌, ℕ, List, Some, Option, refl, ap, ◌∙◌, subst, arith}
+use Rattle.std.proofs.Common.{◌≡◌, List, Some, Option, refl, ap, ◌∙◌, subst}
 use Rattle.format.specs.declared.ids.BindingId.{BindingId}
 use Rattle.format.specs.declared.ids.HygieneId.{HygieneId}
 use Rattle.format.specs.declared.ids.Name.{Name}
@@ -17,22 +17,22 @@ use Rattle.resolve.specs.Hygiene.{OwnOrBeyond, own, beyond, further, MixedSite, 
 
 -- neither a frame nor the module gives a local
 frame_gives_none : (W : ItemTables) (n : Name) (v : BindingId) {f : Frame} {r : Resolution} → Gives W n f r → r ≡ R.Local v → ⊥
-frame_gives_none W n v (impl_itself o z) e = let k : ◌≡◌ {A = ℕ} 0 1 = cc in omega arith
-frame_gives_none W n v (impl_parameter o p z q) e = let k : ◌≡◌ {A = ℕ} 0 1 = cc in omega arith
-frame_gives_none W n v (parameter o p q) e = let k : ◌≡◌ {A = ℕ} 0 1 = cc in omega arith
-frame_gives_none W n v (block_item b i q) e = let k : ◌≡◌ {A = ℕ} 0 1 = cc in omega arith
+frame_gives_none W n v (impl_itself o z) e = cc
+frame_gives_none W n v (impl_parameter o p z q) e = cc
+frame_gives_none W n v (parameter o p q) e = cc
+frame_gives_none W n v (block_item b i q) e = cc
 
 pub outside_gives_none : (W : ItemTables) (fs : List Frame) (n : Name) (v : BindingId) {r : Resolution} → Outside W fs n r → r ≡ R.Local v → ⊥
 outside_gives_none W fs n v (in_frame k r l g z) e = frame_gives_none W n v g e
-outside_gives_none W fs n v (in_the_module i z q) e = let k : ◌≡◌ {A = ℕ} 0 1 = cc in omega arith
-outside_gives_none W fs n v (nowhere z q) e = let k : ◌≡◌ {A = ℕ} 0 1 = cc in omega arith
+outside_gives_none W fs n v (in_the_module i z q) e = cc
+outside_gives_none W fs n v (nowhere z q) e = cc
 
 module _ (W : ItemTables) (X : ExpansionTables) (T : Surroundings) (n : Name) (h : HygieneId) (o : Outer) (v : BindingId) where
   mixed : {p : Option ScopeId} {x : Context} {r : Resolution} → Finds W X T n p x r → x ≡ record { hygiene = h; outer = Some o } → r ≡ R.Local v → OwnOrBeyond T n h o.by v p
   mixed (local x s w st f) e q =
       let same : w ≡ v = cc in
       own s st (subst (λ y. FirstEntry T s n h y) same (subst (λ y. FirstEntry T s n y.hygiene w) e f))
-  mixed (item x s i st z g) e q = absurd (let k : ◌≡◌ {A = ℕ} 0 1 = cc in omega arith)
+  mixed (item x s i st z g) e q = absurd cc
   mixed (past_definition x s a r st z d f) e q =
       let same : a ≡ o = (let w = d.comes_from in let u = ap (λ y. y.outer) e in cc) in
       beyond s st (d.of_macro ∙ ap (λ y. K.MacroDef y.by) same)

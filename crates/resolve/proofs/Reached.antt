@@ -11,6 +11,7 @@ use Rattle.reach.specs.Blank.{bare_entry}
 use Rattle.reach.specs.Held.{shape_of}
 use Rattle.reach.specs.Law.{Among, Holds, OnChain, bound, held}
 use Rattle.reach.specs.Named.{no_entry}
+use Rattle.scope.specs.Queries.{recorded_at}
 use Rattle.reach.specs.Ranges.{home_of}
 use Rattle.reach.specs.Words.{ReachLaw, Reaches}
 use Rattle.reach.specs.declared.data.ScopeEntry.{ScopeEntry}
@@ -19,7 +20,7 @@ use Rattle.scope.specs.Told.{told}
 use Rattle.scope.specs.declared.refusal.QueryRefusal.{QueryRefusal}
 use Rattle.scope.specs.declared.tables.ExprScopes.{ExprScopes}
 use Rattle.sheet.specs.Held.{nodes_of}
-use Rattle.sheet.specs.Tables.{found}
+use Rattle.table.specs.Tables.{found}
 use Rattle.sheet.specs.declared.node.Node.{Node}
 use Rattle.sheet.specs.declared.body.Body.{Body}
 use Rattle.resolve.specs.declared.context.Context.{Context}
@@ -55,10 +56,10 @@ module _ (W : ItemTables) (X : ExpansionTables) (b : Body) (t : ExprScopes) (n :
   one_out s p e h = record { scope = h.scope; chain = OnChain.outward s.0 p e h.chain; entry = h.entry }
 
   none_found : {o : Option ScopeId} {x : Context} {r : Resolution} → Finds W X T n o x r → o ≡ None → r ≡ R.Local v → ⊥
-  none_found (local x s u h f) z e = let k : ◌≡◌ {A = ℕ} 0 1 = cc in omega arith
-  none_found (item x s i h a g) z e = let k : ◌≡◌ {A = ℕ} 0 1 = cc in omega arith
-  none_found (past_definition x s a r h w d f) z e = let k : ◌≡◌ {A = ℕ} 0 1 = cc in omega arith
-  none_found (onward x s r h w q c f) z e = let k : ◌≡◌ {A = ℕ} 0 1 = cc in omega arith
+  none_found (local x s u h f) z e = cc
+  none_found (item x s i h a g) z e = cc
+  none_found (past_definition x s a r h w d f) z e = cc
+  none_found (onward x s r h w q c f) z e = cc
   none_found (left p x r w f) z e = outside_gives_none W T.frames n v f e
 
   by_parent : (s : ScopeId) (o : Option ScopeId) → (scope_at T s).parent ≡ o → ((p : ScopeId) → o ≡ Some p → Holds (told t) v p.0) → (o ≡ None → ⊥) → Holds (told t) v s.0
@@ -70,7 +71,7 @@ module _ (W : ItemTables) (X : ExpansionTables) (b : Body) (t : ExprScopes) (n :
       let same : s ≡ p = cc in
       let bound_to : u ≡ v = cc in
       record { scope = p.0; chain = OnChain.itself; entry = among_held p.0 T.entries f.place v f.answers.there (f.answers.home ∙ ap (λ y. y.0) same) (f.binding_is ∙ bound_to) }
-  holds (item x s i h a g) e p q = absurd (let k : ◌≡◌ {A = ℕ} 0 1 = cc in omega arith)
+  holds (item x s i h a g) e p q = absurd cc
   holds (past_definition x s a r h w d f) e p q =
       let same : s ≡ p = cc in
       subst (λ y. Holds (told t) v y.0) same (by_parent s (scope_at T s).parent refl (holds f e) (λ z. none_found f z e))
@@ -96,7 +97,7 @@ module _ (W : ItemTables) (X : ExpansionTables) (b : Body) (t : ExprScopes) (n :
 
   use_reached : ReachLaw (shape_of b) (length (nodes_of b)) (told t) → (q : Sought) → sought_at b t n ≡ Some q → (v : BindingId) → resolved W X (surroundings_of b t) q ≡ R.Local v → ReachedBy v
   use_reached law q e v is =
-      let w = from_node (get_or t.recorded.records (n.raw - 1) None) (found (nodes_of b) (n.raw - 1)) q e in
+      let w = from_node (recorded_at t n) (found (nodes_of b) (n.raw - 1)) q e in
       let f = found_by_rules W X (surroundings_of b t) q.name (told_below t) q.from (begun X q.hygiene) in
       let h = holds W X b t q.name v f is w.0 w.2 in
       let a = law (n.raw - 1) w.0 w.1 in

@@ -34,7 +34,7 @@ module _ (p : ScopeEntry → Bool) (h : ℕ) where
             let own = ap (first_that p) (cond-true _ (e ∷ entries_of h es) (entries_of h es) (eq-eqb e.scope.0 h same)) in
             elim (cases_Bool (p e)) [
               | inl holds ↦ inl ((same, holds), own ∙ cond-true _ _ _ holds)
-              | inr fails ↦ inr (λ w. let z : true ≡ false = sym w.1 ∙ fails in let k : ◌≡◌ {A = ℕ} 0 1 = cc in omega arith, own ∙ cond-false _ _ _ fails)
+              | inr fails ↦ inr (λ w. let z : true ≡ false = sym w.1 ∙ fails in cc, own ∙ cond-false _ _ _ fails)
             ]
         | inr other ↦ inr (λ w. other w.0, ap (first_that p) (cond-false _ (e ∷ entries_of h es) (entries_of h es) (ne_eqb e.scope.0 h other)))
       ]
@@ -48,7 +48,7 @@ module _ (p : ScopeEntry → Bool) (h : ℕ) where
     pub none_before : (j : ℕ) → j < place → Passes (get_or es j no_entry) → ⊥
 
   pub scan_some : (es : List ScopeEntry) (e : ScopeEntry) → scan es ≡ Some e → Hit es e
-  scan_some [] e q = absurd (let z : None ≡ Some e = sym scan_nil ∙ q in let k : ◌≡◌ {A = ℕ} 0 1 = cc in omega arith)
+  scan_some [] e q = absurd (let z : None ≡ Some e = sym scan_nil ∙ q in cc)
   scan_some (x ∷ es) e q =
       elim (scan_cons x es) [
         | inl w ↦ record { place = 0; there = omega arith; passes = w.0; is = (let z : Some x ≡ Some e = sym w.1 ∙ q in cc); none_before = λ j l. absurd (omega arith) }
@@ -65,12 +65,12 @@ module _ (p : ScopeEntry → Bool) (h : ℕ) where
   scan_none [] q j l w = omega arith
   scan_none (x ∷ es) q zero l w =
       elim (scan_cons x es) [
-        | inl v ↦ let z : None ≡ Some x = sym q ∙ v.1 in let k : ◌≡◌ {A = ℕ} 0 1 = cc in omega arith
+        | inl v ↦ let z : None ≡ Some x = sym q ∙ v.1 in cc
         | inr v ↦ v.0 w
       ]
   scan_none (x ∷ es) q (suc j) l w =
       elim (scan_cons x es) [
-        | inl v ↦ let z : None ≡ Some x = sym q ∙ v.1 in let k : ◌≡◌ {A = ℕ} 0 1 = cc in omega arith
+        | inl v ↦ let z : None ≡ Some x = sym q ∙ v.1 in cc
         | inr v ↦ scan_none es (sym v.1 ∙ q) j (omega arith) w
       ]
 
@@ -94,7 +94,7 @@ module _ (T : Surroundings) (s : ScopeId) (n : Name) (h : HygieneId) where
     where
       of : (o : Option ScopeEntry) → first_that test (entries_of s.0 T.entries) ≡ o → option_map (λ e. R.Local e.binding) o ≡ None → ⊥
       of None e z = scan_none test s.0 T.entries e j a.there (passes j a)
-      of (Some x) e z = let k : ◌≡◌ {A = ℕ} 0 1 = cc in omega arith
+      of (Some x) e z = cc
 
   -- what is found among the entries is the local of the first that answers
   pub record LocalHit (r : Resolution) : Type 0 where
@@ -106,7 +106,7 @@ module _ (T : Surroundings) (s : ScopeId) (n : Name) (h : HygieneId) where
   one_answers r q = of (first_that test (entries_of s.0 T.entries)) refl q
     where
       of : (o : Option ScopeEntry) → first_that test (entries_of s.0 T.entries) ≡ o → option_map (λ e. R.Local e.binding) o ≡ Some r → LocalHit r
-      of None e z = absurd (let k : ◌≡◌ {A = ℕ} 0 1 = cc in omega arith)
+      of None e z = absurd cc
       of (Some x) e z =
           let w = scan_some test s.0 T.entries x e in
           record {

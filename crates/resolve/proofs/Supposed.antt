@@ -1,5 +1,6 @@
 -- Looking through entries as if a binding had another name is looking through the entries rewritten.
 use Rattle.std.proofs.Common.{◌≡◌, ℕ, Bool, true, false, cond, eqb, List, [], ◌∷◌, map, Some, None, Option, sym, refl, ap, ◌∙◌}
+use Rattle.std.proofs.lemmas.Bool.{cond_both}
 use Rattle.std.specs.Option.{option_map}
 use Rattle.format.specs.declared.ids.HygieneId.{HygieneId}
 use Rattle.format.specs.declared.ids.Name.{Name}
@@ -12,11 +13,11 @@ use Rattle.resolve.specs.Outward.{answers_to, local_among, supposed_entry}
 
 pub supposed_scope : (r : Option Rename) (e : ScopeEntry) → (supposed_entry r e).scope ≡ e.scope
 supposed_scope None e = refl
-supposed_scope (Some r) e = elim (eqb e.binding.0 r.binding.0) as (λ b. (cond b record { name = r.name; hygiene = e.hygiene; binding = e.binding; scope = e.scope } e).scope ≡ e.scope) [ true ↦ refl | false ↦ refl ]
+supposed_scope (Some r) e = cond_both (eqb e.binding.0 r.binding.0) record { name = r.name; hygiene = e.hygiene; binding = e.binding; scope = e.scope } e (λ y. y.scope ≡ e.scope) (λ _. refl) (λ _. refl)
 
 pub supposed_binding : (r : Option Rename) (e : ScopeEntry) → (supposed_entry r e).binding ≡ e.binding
 supposed_binding None e = refl
-supposed_binding (Some r) e = elim (eqb e.binding.0 r.binding.0) as (λ b. (cond b record { name = r.name; hygiene = e.hygiene; binding = e.binding; scope = e.scope } e).binding ≡ e.binding) [ true ↦ refl | false ↦ refl ]
+supposed_binding (Some r) e = cond_both (eqb e.binding.0 r.binding.0) record { name = r.name; hygiene = e.hygiene; binding = e.binding; scope = e.scope } e (λ y. y.binding ≡ e.binding) (λ _. refl) (λ _. refl)
 
 cond_map : {X Y : Type 0} (f : X → Y) (b : Bool) (x y : X) → cond b (f x) (f y) ≡ f (cond b x y)
 cond_map f true x y = refl

@@ -6,12 +6,12 @@ use Rattle.format.specs.declared.ids.NodeId.{NodeId}
 use Rattle.format.specs.declared.ids.ScopeId.{ScopeId}
 use Rattle.format.specs.declared.kind.NodeKind.{NodeKind}
 use Rattle.format.specs.declared.kind.NodeKind.TheVariants as N
-use Rattle.scope.specs.Queries.{IsScope}
+use Rattle.scope.specs.Queries.{IsScope, recorded_at}
 use Rattle.scope.specs.declared.refusal.QueryRefusal.{QueryRefusal}
 use Rattle.scope.specs.declared.refusal.QueryRefusal.TheVariants as Q
 use Rattle.scope.specs.declared.tables.ExprScopes.{ExprScopes}
 use Rattle.sheet.specs.Held.{nodes_of}
-use Rattle.sheet.specs.Tables.{found}
+use Rattle.table.specs.Tables.{found}
 use Rattle.sheet.specs.declared.body.Body.{Body}
 use Rattle.sheet.specs.declared.node.Node.{Node}
 use Rattle.resolve.specs.declared.sought.Sought.{Sought}
@@ -66,7 +66,7 @@ asked o (Some x) = asked_from o (use_of x.kind)
 
 -- what is looked up for node n of a body, or nothing where it is no use
 abbrev pub sought_at : Body → ExprScopes → NodeId → Option Sought
-sought_at b t n = asked (slice_index_or t.recorded.records (n.raw - 1) None) (found (nodes_of b) (n.raw - 1))
+sought_at b t n = asked (recorded_at t n) (found (nodes_of b) (n.raw - 1))
 
 -- the answer for a use, or refusal 21 exactly where the node is none
 abbrev pub ForUse : {X : Type 0} → Body → ExprScopes → NodeId → Result X QueryRefusal → (Sought → X → Type 0) → Type 0

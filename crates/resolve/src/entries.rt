@@ -22,14 +22,8 @@ fn name_of(entry: ScopeEntry, supposed: Option<Rename>) -> Name
     ensures as_if_renamed { result ≡ (supposed_entry supposed entry).name }
 {
     match supposed {
-        Some(rename) => {
-            if entry.binding.0 == rename.binding.0 {
-                rename.name
-            } else {
-                entry.name
-            }
-        }
-        None => entry.name,
+        Some(rename) if entry.binding == rename.binding => rename.name,
+        _ => entry.name,
     }
 }
 
@@ -37,7 +31,7 @@ impl EntryTest for ByNameAndHygiene {
     ghost passes = { λ t e. answers_to t.name t.hygiene (supposed_entry t.supposed e) };
 
     fn test(&self, entry: ScopeEntry) -> bool {
-        name_of(entry, self.supposed).0 == self.name.0 && entry.hygiene.0 == self.hygiene.0
+        name_of(entry, self.supposed) == self.name && entry.hygiene == self.hygiene
     }
 }
 
@@ -46,11 +40,6 @@ impl EntryTest for ByNameAndHygiene {
 pub(crate) fn local_in(tree: &ExprScopes, s: ScopeId, test: ByNameAndHygiene) -> Option<Resolution>
     ensures the_first_that_answers { IsScope tree.now s → result ≡ local_among (map (supposed_entry test.supposed) (all_entries tree.now)) test.name test.hygiene s }
 {
-    let Ok(first) = tree.first_entry(s, &test) else {
-        return None;
-    };
-    match first {
-        Some(entry) => Some(Resolution::Local(entry.binding)),
-        None => None,
-    }
+    let first = tree.first_entry(s, &test).ok()?;
+    first.map(|entry| Resolution::Local(entry.binding))
 }

@@ -6,5 +6,6 @@ mod entries;
 mod outside;
 pub mod outward;
 pub mod resolution;
+pub mod resolver;
 pub mod sought;
 pub mod uses;

@@ -5,7 +5,7 @@ ghost use Rattle.std.specs.Prelude.{◌≡◌, true, false, ◌≢◌};
 use format::ids::{BindingId, OwnerId};
 use host::item::{ConstParamId, Item};
 
-#[derive(Clone, Copy)]
+#[derive(Clone, Copy, PartialEq, Eq)]
 pub enum Resolution {
     // A local variable or parameter of the body.
     Local(BindingId),
@@ -15,11 +15,12 @@ pub enum Resolution {
     ConstParam(ConstParamId),
     // The impl around the body, by the name `Self`.
     ImplSelf(OwnerId),
+    // An answer like the others, which is counted and compared with them, and not the lack of one.
     Unfound,
 }
 
 // What sort of thing a name means.
-#[derive(Clone, Copy)]
+#[derive(Clone, Copy, PartialEq, Eq)]
 pub enum Sort {
     Local,
     Item,
@@ -41,20 +42,12 @@ impl Resolution {
         }
     }
 
-    // Whether two meanings are the same.
+    // Whether two meanings are the same. It says of `==` what the derive does not: by what they tell.
     pub fn is(self, other: Resolution) -> bool
         ensures is_true_of_the_same { result ≡ true → self ≡ other }
         ensures is_false_of_others { result ≡ false → tells self ≢ tells other }
         ensures goes_by_what_they_tell { ToldApart }
     {
-        match (self, other) {
-            (Resolution::Local(a), Resolution::Local(b)) => a.0 == b.0,
-            (Resolution::Item(a), Resolution::Item(b)) => a.kind.number() == b.kind.number()
-                && a.id.0 == b.id.0,
-            (Resolution::ConstParam(a), Resolution::ConstParam(b)) => a.0 == b.0,
-            (Resolution::ImplSelf(a), Resolution::ImplSelf(b)) => a.0 == b.0,
-            (Resolution::Unfound, Resolution::Unfound) => true,
-            _ => false,
-        }
+        self == other
     }
 }

@@ -6,7 +6,8 @@ ghost use Rattle.std.specs.Prelude.{◌≡◌, Bool};
 use format::ids::Name;
 use reach::data::ScopeEntry;
 
-// Which entries pass is shown by a ghost member, so one look through a scope serves every test.
+// Which entries pass is shown by a ghost member, so one look through a scope serves every test. A
+// closure would serve too, but only with a `requires` that it may be called, which asks more of callers.
 pub trait EntryTest {
     ghost passes: { Self → AnEntry → Bool };
 
@@ -22,6 +23,6 @@ impl EntryTest for ByName {
     ghost passes = { λ t. named t.0 };
 
     fn test(&self, entry: ScopeEntry) -> bool {
-        entry.name.0 == self.0.0
+        entry.name == self.0
     }
 }

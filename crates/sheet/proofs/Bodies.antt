@@ -1,11 +1,11 @@
 -- The laws of a body, from what was read.
 use Rattle.std.proofs.Common.{◌≡◌, ℕ, ◌<◌, true, cond, eqb, List, length, get_or, unwrap_or, sym, refl, ap, ◌∙◌, subst, arith}
 use Rattle.std.proofs.lemmas.Bool.{ne_eqb, and_from, not_from_false, cond_both}
-use Rattle.format.specs.declared.fault.Part.TheVariants as P
+use Rattle.framing.specs.declared.fault.Part.TheVariants as P
 use Rattle.format.specs.declared.kind.NodeKind.TheVariants as K
 use Rattle.format.specs.declared.kind.NodeRecord.{NodeRecord}
 use Rattle.format.specs.Kinds.{count_suits, named}
-use Rattle.format.specs.Layout.{count_of, bytes_in}
+use Rattle.framing.specs.Layout.{count_of, bytes_in}
 use Rattle.format.proofs.Codes.{said}
 use Rattle.sheet.specs.declared.node.Binding.{Binding}
 use Rattle.sheet.specs.declared.node.Frame.{Frame}
@@ -14,7 +14,7 @@ use Rattle.sheet.specs.declared.node.Node.{Node}
 use Rattle.sheet.specs.Lawful.{AllNamed, AllCounted, AllBindingsNamed, AllFramesNumbered, name_fits, number_of_frame}
 use Rattle.sheet.specs.Records.{record_at, Said, kind_said, node_from, binding_at, frame_from, frame_at, frame_code, frame_number, nodes_in, bindings_in, frames_in}
 use Rattle.sheet.specs.Shape.{shape, blank, node_at, kind_at}
-use Rattle.sheet.proofs.Listed.{length-tabulated, get_or-tabulated}
+use Rattle.table.proofs.Listed.{length-tabulated, get_or-tabulated}
 use Rattle.sheet.proofs.Load.{AllSaid, GoodBindings, GoodFrames}
 
 -- the kind that a record says

@@ -1,4 +1,3 @@
-pub mod Listed
 pub mod Counts
 pub mod Times
 pub mod Rules
@@ -6,3 +5,6 @@ pub mod Marks
 pub mod Once
 pub mod Load
 pub mod Bodies
+pub mod Drafts
+pub mod Lower
+pub mod InOrder

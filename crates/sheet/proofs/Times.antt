@@ -1,7 +1,8 @@
 -- How often a number stands in a list.
-use Rattle.std.proofs.Common.{◌≡◌, ℕ, zero, suc, ◌+◌, ◌-◌, ◌<◌, ◌≤◌, cond, eqb, ◌≢◌, List, [], ◌∷◌, ◌++◌, length, get_or, take, set, replicate, sym, refl, ap, ◌∙◌, subst, ⊎_elim, arith, get_or-set_other, get_or-set_same}
+use Rattle.std.proofs.Common.{◌≡◌, ℕ, zero, suc, ◌+◌, ◌-◌, ◌<◌, ◌≤◌, Bool, true, false, cond, not, eqb, ◌≢◌, List, [], ◌∷◌, ◌++◌, length, get_or, take, set, replicate, Some, None, Option, sym, refl, ap, ◌∙◌, subst, ⊎_elim, arith, get_or-set_other, get_or-set_same}
 use Rattle.std.proofs.lemmas.List.{take_more, take_all, get_or-replicate}
-use Rattle.std.proofs.lemmas.Bool.{cases_eq, cases_lt, eq-eqb, ne_eqb, cond-true, cond-false}
+use Rattle.std.specs.Option.{is_some, option_eq}
+use Rattle.std.proofs.lemmas.Bool.{both_ways, cases_eq, cases_lt, eqb-true, eq-eqb, ne_eqb, cond-true, cond-false}
 use Rattle.sheet.specs.Shape.{times}
 use Rattle.sheet.specs.Steps.{FirstClaim, Claims}
 
@@ -40,62 +41,71 @@ times_here c q k cs l h e =
 
 -- the table of first claims, one child more
 module _ (cs : List ℕ) (n : ℕ) (lt : n < length cs) where
-  claim_keep : (c v : ℕ) → FirstClaim cs n c v → (get_or cs n 0 ≡ c → 0 < v) → FirstClaim cs (n + 1) c v
+  claim_keep : (c : ℕ) (v : Option ℕ) → FirstClaim cs n c v → (get_or cs n 0 ≡ c → v ≡ None → ⊥) → FirstClaim cs (n + 1) c v
   claim_keep c v f h = record {
-    none = λ z. times_other c n cs lt (λ e. omega (arith, h e)) ∙ f.none z;
-    within = omega (arith, f.within);
-    there = f.there;
-    first = f.first;
+    none = λ z. times_other c n cs lt (λ e. h e z) ∙ f.none z;
+    first = λ q e. let p = f.first q e in (omega (arith, p.0), p.1, p.2);
   }
 
-  claim_set : (c : ℕ) → FirstClaim cs n c 0 → get_or cs n 0 ≡ c → FirstClaim cs (n + 1) c (n + 1)
-  claim_set c f e = let z : n + 1 - 1 ≡ n = omega arith in record {
-    none = λ h. absurd (omega arith);
-    within = omega arith;
-    there = λ _. subst (λ x. get_or cs x 0 ≡ c) (sym z) e;
-    first = λ _. subst (λ x. times c (take x cs) ≡ 0) (sym z) (f.none refl);
+  claim_set : (c : ℕ) → FirstClaim cs n c None → get_or cs n 0 ≡ c → FirstClaim cs (n + 1) c (Some n)
+  claim_set c f e = record {
+    none = λ h. let z : ◌≡◌ {A = ℕ} 0 1 = cc in absurd (omega arith);
+    first = λ q h. let k : n ≡ q = cc in (omega (arith, k), subst (λ x. get_or cs x 0 ≡ c) k e, subst (λ x. times c (take x cs) ≡ 0) k (f.none refl));
   }
 
-  pub claims_keep : (t : List ℕ) (x : ℕ) → x ≡ get_or cs n 0 → Claims cs n t → (x < 513 → 0 < get_or t x 0) → Claims cs (n + 1) t
-  claims_keep t x i f h c l = claim_keep c _ (f c l) (λ e. subst (λ y. 0 < get_or t y 0) (i ∙ e) (h (omega arith)))
+  pub claims_keep : (t : List (Option ℕ)) (x : ℕ) → x ≡ get_or cs n 0 → Claims cs n t → (x < 513 → get_or t x None ≡ None → ⊥) → Claims cs (n + 1) t
+  claims_keep t x i f h c l = claim_keep c _ (f c l) (λ e z. h (omega arith) (subst (λ y. get_or t y None ≡ None) (sym (i ∙ e)) z))
 
-  pub claims_set : (t : List ℕ) (x : ℕ) → x ≡ get_or cs n 0 → length t ≡ 513 → Claims cs n t → x < 513 → get_or t x 0 ≡ 0 → Claims cs (n + 1) (set t x (n + 1))
+  pub claims_set : (t : List (Option ℕ)) (x : ℕ) → x ≡ get_or cs n 0 → length t ≡ 513 → Claims cs n t → x < 513 → get_or t x None ≡ None → Claims cs (n + 1) (set t x (Some n))
   claims_set t x i len f l z c lc =
       ⊎_elim
       (λ (e : c ≡ x).
       let h : x < length t = omega arith in
-      subst (λ y. FirstClaim cs (n + 1) y (get_or (set t x (n + 1)) y 0)) (sym e)
+      subst (λ y. FirstClaim cs (n + 1) y (get_or (set t x (Some n)) y None)) (sym e)
       (rw get_or-set_same (claim_set x (subst (λ v. FirstClaim cs n x v) z (f x l)) (sym i))))
       (λ (ne : c ≢ x). rw get_or-set_other (claim_keep c _ (f c lc) (λ e. absurd (ne (sym (i ∙ e))))))
       (cases_eq c x)
 
-pub claims_none : (cs : List ℕ) → Claims cs 0 (replicate 513 0)
-claims_none cs c l =
-    rw get_or-replicate record { none = λ _. refl; within = omega arith; there = λ h. absurd (omega arith); first = λ h. absurd (omega arith) }
+pub claims_none : (cs : List ℕ) → Claims cs 0 (replicate 513 None)
+claims_none cs c l = rw get_or-replicate record { none = λ _. refl; first = λ q h. let z : ◌≡◌ {A = ℕ} 0 1 = cc in absurd (omega arith) }
+
+-- what the code tests of a claim
+pub unclaimed_is : (v : Option ℕ) (b : Bool) → is_some v ≡ not b → b ≡ true → v ≡ None
+unclaimed_is None b h e = refl
+unclaimed_is (Some q) b h e = absurd (both_ways (not b) (ap not e) (sym h))
+
+pub claimed_is : (v : Option ℕ) (b : Bool) → is_some v ≡ not b → b ≡ false → v ≡ None → ⊥
+claimed_is v b h e z = both_ways (is_some v) (ap is_some z) (h ∙ ap not e)
+
+pub claim_from : (v : Option ℕ) (q : ℕ) → option_eq eqb v (Some q) ≡ true → v ≡ Some q
+claim_from None q h = absurd (both_ways false refl h)
+claim_from (Some p) q h = ap (λ x. Some x) (eqb-true p q h)
+
+pub from_claim : (v : Option ℕ) (q : ℕ) → v ≡ Some q → option_eq eqb v (Some q) ≡ true
+from_claim v q e = ap (λ w. option_eq eqb w (Some q)) e ∙ eq-eqb q q refl
 
 -- the table tells whether a child was none before, and whether a node is a child
-module _ (cs : List ℕ) (v : ℕ) where
-  pub new_from : (q c : ℕ) → get_or cs q 0 ≡ c → FirstClaim cs (length cs) c v → v ≡ q + 1 → times c (take q cs) ≡ 0
-  new_from q c e f i = let z : v - 1 ≡ q = omega arith in subst (λ x. times c (take x cs) ≡ 0) z (f.first (omega arith))
+module _ (cs : List ℕ) where
+  pub new_from : (v : Option ℕ) (q c : ℕ) → FirstClaim cs (length cs) c v → v ≡ Some q → times c (take q cs) ≡ 0
+  new_from v q c f i = (f.first q i).2
 
-  pub from_new : (q c : ℕ) → q < length cs → get_or cs q 0 ≡ c → FirstClaim cs (length cs) c v → times c (take q cs) ≡ 0 → v ≡ q + 1
-  from_new q c l e f z =
-      ⊎_elim
-      (λ (o : v ≡ 0). absurd (omega (arith, f.none o, times_here c q (length cs) cs l (omega arith) e)))
-      (λ no.
-      ⊎_elim (λ (y : v ≡ q + 1). y)
+  pub from_new : (v : Option ℕ) (q c : ℕ) → q < length cs → get_or cs q 0 ≡ c → FirstClaim cs (length cs) c v → times c (take q cs) ≡ 0 → v ≡ Some q
+  from_new None q c l e f z = absurd (omega (arith, f.none refl, times_here c q (length cs) cs l (omega arith) e))
+  from_new (Some p) q c l e f z =
+      let w = f.first p refl in
+      ⊎_elim (λ (y : p ≡ q). ap (λ x. Some x) y)
       (λ ny.
-      ⊎_elim
-      (λ (s : v < q + 1). absurd (omega (arith, z, times_here c (v - 1) q cs (omega arith) (omega arith) (f.there (omega arith)))))
-      (λ (s : q + 1 ≤ v). absurd (omega (arith, f.first (omega arith), times_here c q (v - 1) cs (omega arith) (omega (arith, f.within)) e)))
-      (cases_lt v (q + 1)))
-      (cases_eq v (q + 1)))
-      (cases_eq v 0)
+      ⊎_elim (λ (s : p < q). absurd (omega (arith, z, times_here c p q cs s (omega arith) w.1)))
+      (λ (s : q ≤ p). absurd (omega (arith, w.2, times_here c q p cs (omega arith) (omega (arith, w.0)) e)))
+      (cases_lt p q))
+      (cases_eq p q)
 
-  pub claimed_from : (c : ℕ) → FirstClaim cs (length cs) c v → 0 < v → 0 < times c cs
-  claimed_from c f h =
-      let u = times_here c (v - 1) (length cs) cs (omega (arith, f.within)) (omega arith) (f.there h) in
+  pub claimed_from : (v : Option ℕ) (c : ℕ) → FirstClaim cs (length cs) c v → (v ≡ None → ⊥) → 0 < times c cs
+  claimed_from None c f h = absurd (h refl)
+  claimed_from (Some q) c f h =
+      let w = f.first q refl in
+      let u = times_here c q (length cs) cs w.0 (omega arith) w.1 in
       subst (λ x. 0 < times c x) (take_all (length cs) cs (omega arith)) u
 
-  pub unclaimed_from : (c : ℕ) → FirstClaim cs (length cs) c v → v ≡ 0 → times c cs ≡ 0
-  unclaimed_from c f h = subst (λ x. times c x ≡ 0) (take_all (length cs) cs (omega arith)) (f.none h)
+  pub unclaimed_from : (v : Option ℕ) (c : ℕ) → FirstClaim cs (length cs) c v → v ≡ None → times c cs ≡ 0
+  unclaimed_from v c f h = subst (λ x. times c x ≡ 0) (take_all (length cs) cs (omega arith)) (f.none h)

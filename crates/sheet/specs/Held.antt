@@ -1,7 +1,7 @@
 -- What a body holds, as lists.
 use Rattle.std.specs.Prelude.{◌≡◌, ℕ, List, take, drop, Option, slice_index_or}
 use Rattle.format.specs.declared.ids.NodeId.{NodeId}
-use Rattle.format.specs.Faults.{NoneApply}
+use Rattle.framing.specs.Faults.{NoneApply}
 use Rattle.sheet.specs.declared.body.Body.{Body}
 use Rattle.sheet.specs.declared.node.Binding.{Binding}
 use Rattle.sheet.specs.declared.node.Frame.{Frame}
@@ -10,7 +10,7 @@ use Rattle.sheet.specs.Causes.{Applies}
 use Rattle.sheet.specs.Lawful.{shape_of}
 use Rattle.sheet.specs.Records.{nodes_in, children_in, bindings_in, frames_in}
 use Rattle.sheet.specs.Shape.{Shape, blank}
-use Rattle.sheet.specs.Tables.{listed}
+use Rattle.table.specs.Tables.{listed}
 
 abbrev pub tree_of : Body → Shape
 tree_of b = shape_of b.nodes b.children

@@ -7,9 +7,9 @@ use Rattle.sheet.specs.declared.node.Binding.{Binding}
 use Rattle.sheet.specs.declared.node.Frame.{Frame}
 use Rattle.sheet.specs.declared.node.Frame.TheVariants as F
 use Rattle.sheet.specs.declared.node.Node.{Node}
-use Rattle.sheet.specs.declared.table.Table.{Table}
+use Rattle.table.specs.declared.Table.{Table}
 use Rattle.sheet.specs.Shape.{Shape, shape, node_at, kind_at, child_at, sort_at, times}
-use Rattle.sheet.specs.Tables.{listed}
+use Rattle.table.specs.Tables.{listed}
 use Rattle.sheet.specs.Tree.{LetInPlace, is_body}
 
 -- the shape that a node table and a table of children have

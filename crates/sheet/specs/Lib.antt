@@ -1,4 +1,3 @@
-pub mod Tables
 pub mod Shape
 pub mod Tree
 pub mod Records
@@ -6,3 +5,4 @@ pub mod Causes
 pub mod Steps
 pub mod Lawful
 pub mod Held
+pub mod Drafts

@@ -1,18 +1,18 @@
 -- What the bytes of the sections write.
 use Rattle.std.specs.Prelude.{◌≡◌, ℕ, zero, suc, ◌+◌, ◌*◌, ◌/◌, ◌≤◌, cond, List, length, ◌==◌, slice_index}
 use Rattle.std.specs.Option.{unwrap_or}
-use Rattle.format.specs.declared.fault.Part.TheVariants as P
+use Rattle.framing.specs.declared.fault.Part.TheVariants as P
 use Rattle.format.specs.declared.kind.NodeKind.{NodeKind}
 use Rattle.format.specs.declared.kind.NodeKind.TheVariants as K
 use Rattle.format.specs.declared.kind.NodeRecord.{NodeRecord}
 use Rattle.format.specs.Kinds.{Says, kind_from}
-use Rattle.format.specs.Layout.{u16at, u32at, count_of, bytes_in}
+use Rattle.framing.specs.Layout.{u16at, u32at, count_of, bytes_in}
 use Rattle.sheet.specs.declared.node.Node.{Node}
 use Rattle.sheet.specs.declared.node.Binding.{Binding}
 use Rattle.sheet.specs.declared.node.Frame.{Frame}
 use Rattle.sheet.specs.declared.node.Frame.TheVariants as F
 use Rattle.sheet.specs.Shape.{Shape, shape}
-use Rattle.sheet.specs.Tables.{tabulated}
+use Rattle.table.specs.Tables.{tabulated}
 
 -- the record of the node at place i: kind, child count, a, b
 unfoldable pub record_at : List ℕ → ℕ → NodeRecord

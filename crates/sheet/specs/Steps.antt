@@ -1,39 +1,22 @@
 -- What the steps of reading say of what they read.
-use Rattle.std.specs.Prelude.{◌≡◌, ℕ, ◌+◌, ◌-◌, ◌<◌, ◌≤◌, Bool, true, false, ◌⊎◌, List, length, take, slice_index, slice_index_or}
-use Rattle.format.specs.declared.fault.Fault.{Fault}
-use Rattle.format.specs.declared.fault.Part.{Part}
-use Rattle.format.specs.declared.fault.Refusal.{Refusal}
+use Rattle.std.specs.Prelude.{◌≡◌, ℕ, ◌+◌, ◌<◌, ◌≤◌, Bool, true, false, ◌⊎◌, List, length, take, Some, None, Option, slice_index, slice_index_or}
+use Rattle.framing.specs.declared.fault.Fault.{Fault}
+use Rattle.framing.specs.declared.fault.Part.TheVariants as P
+use Rattle.framing.specs.declared.fault.Refusal.TheVariants as R
+use Rattle.framing.specs.Broken.{FirstBroken}
 use Rattle.format.specs.declared.kind.NodeKind.{NodeKind}
 use Rattle.format.specs.declared.kind.NodeKind.TheVariants as K
 use Rattle.sheet.specs.Shape.{Shape, kind_at, times}
-use Rattle.format.specs.declared.fault.Part.TheVariants as P
-use Rattle.format.specs.declared.fault.Refusal.TheVariants as R
 use Rattle.sheet.specs.Tree.{AddsUp, Child, GoodNode, InCondition}
 
--- a fault of record i, from 0
-pub record FaultAt (r : Refusal) (p : Part) (i : ℕ) (f : Fault) : Type 0 where
-  pub refusal_is : f.refusal ≡ r
-  pub part_is : f.part ≡ p
-  pub record_is : f.record ≡ i + 1
-
--- a fault of the first of n records that breaks a rule
-pub record FirstBroken (Rule : ℕ → Type 0) (n : ℕ) (r : Refusal) (p : Part) (f : Fault) : Type 0 where
-  pub at : ℕ
-  pub fault : FaultAt r p at f
-  pub within : at < n
-  pub broken : Rule at → ⊥
-  pub kept_before : (j : ℕ) → j < at → Rule j
-
--- v is 0 where c is none of the first n children, else one more than the place of the first of them that is
-pub record FirstClaim (cs : List ℕ) (n c v : ℕ) : Type 0 where
-  pub none : v ≡ 0 → times c (take n cs) ≡ 0
-  pub within : v ≤ n
-  pub there : 0 < v → slice_index cs (v - 1) ≡ c
-  pub first : 0 < v → times c (take (v - 1) cs) ≡ 0
+-- v is none where c is none of the first n children, else the place of the first of them that is
+pub record FirstClaim (cs : List ℕ) (n c : ℕ) (v : Option ℕ) : Type 0 where
+  pub none : v ≡ None → times c (take n cs) ≡ 0
+  pub first : (q : ℕ) → v ≡ Some q → (q < n) × (slice_index cs q ≡ c) × (times c (take q cs) ≡ 0)
 
 -- so it is at each node number
-abbrev pub Claims : List ℕ → ℕ → List ℕ → Type 0
-Claims cs n v = (c : ℕ) → c < 513 → FirstClaim cs n c (slice_index v c)
+abbrev pub Claims : List ℕ → ℕ → List (Option ℕ) → Type 0
+Claims cs n v = (c : ℕ) → c < 513 → FirstClaim cs n c (slice_index_or v c None)
 
 -- every child has a lower number than its parent
 abbrev pub Falls : Shape → Type 0

@@ -1,12 +1,12 @@
 // A body: the tables of a lawful sheet.
 ghost use Rattle.std.specs.Prelude.{ℕ, ◌≤◌, length};
 ghost use Rattle.sheet.specs.Lawful.{AllAdmitted, AllBindingsNamed, AllCounted, AllFramesNumbered, AllLower, AllNamed, BodyLast, LetsInPlace, Once, shape_of};
-ghost use Rattle.sheet.specs.Tables.{listed};
+ghost use Rattle.table.specs.Tables.{listed};
 ghost use Rattle.sheet.specs.Tree.{AddsUp, LaidOut};
 
 use crate::node::{Binding, Frame, Node};
-use crate::table::Table;
 use format::ids::NodeId;
+use table::Table;
 
 // Every body that can exist is lawful: that is what its ghost fields say.
 #[derive(Drop)]

@@ -4,9 +4,9 @@
 pub mod body;
 mod children;
 mod claims;
+mod draft;
 mod names;
 pub mod node;
 mod nodes;
 mod place;
-mod table;
 mod tree;

@@ -2,8 +2,9 @@
 use format::ids::{BindingId, BlockId, HygieneId, Name, OwnerId};
 use format::kind::NodeKind;
 
-// A node: its kind, where its children begin among all children, and how many it has.
-#[derive(Clone, Copy)]
+// A node: its kind, where its children begin among all children, and how many it has. They lie in one
+// table and not in a box of the node's own, since no memory is asked for.
+#[derive(Clone, Copy, PartialEq, Eq)]
 pub struct Node {
     pub kind: NodeKind,
     pub first: u32,
@@ -11,14 +12,14 @@ pub struct Node {
 }
 
 // What a pattern may bind: a name, and the expansion that wrote it.
-#[derive(Clone, Copy)]
+#[derive(Clone, Copy, PartialEq, Eq)]
 pub struct Binding {
     pub name: Name,
     pub hygiene: HygieneId,
 }
 
 // What stands around the body.
-#[derive(Clone, Copy)]
+#[derive(Clone, Copy, PartialEq, Eq)]
 pub enum Frame {
     // The generic parameters of an impl.
     ImplGenerics(OwnerId),
@@ -28,15 +29,13 @@ pub enum Frame {
     Block(BlockId),
 }
 
-pub(crate) const BLANK_NODE: Node = Node {
+pub const BLANK_NODE: Node = Node {
     kind: NodeKind::Leaf,
     first: 0,
     count: 0,
 };
 
-pub(crate) const BLANK_BINDING: Binding = Binding {
+pub const BLANK_BINDING: Binding = Binding {
     name: Name(0),
     hygiene: HygieneId(0),
 };
-
-pub(crate) const BLANK_FRAME: Frame = Frame::ImplGenerics(OwnerId(0));

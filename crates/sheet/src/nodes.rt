@@ -2,14 +2,14 @@
 ghost use Rattle.std.specs.Prelude.{◌≡◌, ℕ, ◌+◌, ◌*◌, ◌/◌, ◌<◌, ◌≤◌, length, MatchResult};
 ghost use Rattle.format.specs.Kinds.{Says};
 ghost use Rattle.sheet.specs.Records.{Said, begins, kind_said, node_from, record_at};
-ghost use Rattle.sheet.specs.Steps.{FaultAt, FirstBroken};
-ghost use Rattle.sheet.specs.Tables.{listed, tabulated};
+ghost use Rattle.framing.specs.Broken.{FaultAt, FirstBroken};
+ghost use Rattle.table.specs.Tables.{listed, tabulated};
 
 use crate::node::{BLANK_NODE, Node};
-use crate::table::Table;
-use format::bytes::{u16_at, u32_at};
-use format::fault::{Fault, Part, Refusal};
 use format::kind::NodeRecord;
+use framing::bytes::{u16_at, u32_at};
+use framing::fault::{Fault, Part, Refusal};
+use table::Table;
 
 // The record of the node at a place, from 0.
 fn node_record(nodes: &[u8], i: usize) -> NodeRecord
@@ -26,19 +26,15 @@ fn node_record(nodes: &[u8], i: usize) -> NodeRecord
 }
 
 // One node, or refusal 4 at its record.
-fn read_node(written: NodeRecord, bindings: u32, first: u32, i: u16) -> Result<Node, Fault>
+fn read_node(written: NodeRecord, bindings: u32, first: u32, i: usize) -> Result<Node, Fault>
     requires few { i < 512 }
     ensures says_a_kind_or_refused { MatchResult result
         (λ n. Says bindings written n.kind × (n.first ≡ first) × (n.count ≡ written.count))
         (λ f. FaultAt Refusal.Record Part.Nodes i f × (Said bindings written → ⊥)) }
 {
-    let Some(kind) = written.kind(bindings) else {
-        return Err(Fault {
-            refusal: Refusal::Record,
-            part: Part::Nodes,
-            record: i + 1,
-        });
-    };
+    let kind = written
+        .kind(bindings)
+        .ok_or(Fault::at_record(Refusal::Record, Part::Nodes, i))?;
     Ok(Node {
         kind,
         first,
@@ -56,8 +52,9 @@ pub(crate) fn read_nodes(nodes: &[u8], bindings: u32) -> Result<Table<Node, 512>
 {
     let mut table: Table<Node, 512> = Table::new(BLANK_NODE);
     let mut first = 0u32;
+    // By place and not by chunks: what is written and what is refused are both told by place.
     for i in 0..nodes.len() / 11 {
-        let node = read_node(node_record(nodes, i), bindings, first, i as u16)?;
+        let node = read_node(node_record(nodes, i), bindings, first, i)?;
         first += node.count as u32;
         table.push(node);
     }

@@ -1,140 +1,134 @@
 // The tree rules: refusal 5.
-ghost use Rattle.std.specs.Prelude.{◌≡◌, ℕ, ◌+◌, ◌-◌, ◌*◌, ◌/◌, ◌<◌, ◌≤◌, [], length, Decides, MatchResult};
-ghost use Rattle.sheet.specs.Records.{numbers};
-ghost use Rattle.sheet.specs.Shape.{node_at, shape, sort_at, total};
-ghost use Rattle.sheet.specs.Steps.{Claims, FaultAt, FirstBroken, TreeFault};
-ghost use Rattle.sheet.specs.Tables.{listed};
-ghost use Rattle.sheet.specs.Tree.{GoodChild, GoodNode, GoodTree, LaidOut};
+ghost use Rattle.std.specs.Prelude.{◌≡◌, ℕ, ◌+◌, ◌-◌, ◌*◌, ◌/◌, ◌<◌, ◌≤◌, length, Decides, MatchResult, None, Some, slice_index_or};
+ghost use Rattle.framing.specs.Broken.{FaultAt};
+ghost use Rattle.sheet.specs.Drafts.{drawn};
+ghost use Rattle.sheet.specs.Shape.{node_at, sort_at, total};
+ghost use Rattle.sheet.specs.Steps.{Claims, TreeFault};
+ghost use Rattle.sheet.specs.Tree.{AddsUp, GoodChild, GoodNode, GoodTree};
 
-use crate::children::child_number;
-use crate::claims::first_claims;
-use crate::node::Node;
-use crate::table::Table;
-use format::fault::{Fault, Part, Refusal};
+use crate::draft::Draft;
 use format::kind::Sort;
+use framing::fault::{Fault, Part, Refusal};
 
-// The sort of a node by its number, none for 0.
-fn sort_of(nodes: &Table<Node, 512>, children: &[u8], c: usize) -> Option<Sort>
-    requires is_there { c ≤ length (listed nodes.now) }
-    ensures its_own { result ≡ sort_at (shape (listed nodes.now) (numbers children.now)) c }
-{
-    if c == 0 {
-        return None;
-    }
-    Some(nodes.at(c - 1).kind.sort())
+// A draft whose counts add up, with the first child that names each node, by its number. No memory is
+// asked for, so that is no map.
+#[derive(Drop)]
+struct Claimed<'a> {
+    draft: Draft<'a>,
+    first: [Option<u16>; 513],
+    ghost adds_up: { AddsUp (drawn draft) },
+    ghost claims: { Claims (drawn draft).children (length (drawn draft).children) first },
 }
 
-// Whether the child at place j of node i is good.
-fn child_fits(
-    nodes: &Table<Node, 512>,
-    children: &[u8],
-    first: &[u16; 513],
-    i: usize,
-    j: usize,
-) -> bool
-    requires is_there { i < length (listed nodes.now) }
-    requires within { (node_at (shape (listed nodes.now) (numbers children.now)) i).first + j < length children.now / 2 }
-    requires few { length children.now / 2 ≤ 1024 }
-    requires claims { Claims (numbers children.now) (length children.now / 2) first.now }
-    ensures is_good { Decides result (GoodChild (shape (listed nodes.now) (numbers children.now)) i j) }
-{
-    let node = nodes.at(i);
-    let q = node.first as usize + j;
-    let c = child_number(children, q) as usize;
-    if c > i {
-        return false;
-    }
-    if !node.kind.slot(j).admits(sort_of(nodes, children, c)) {
-        return false;
-    }
-    c == 0 || first[c] as usize == q + 1
+// A draft that keeps the tree rules.
+#[derive(Clone, Copy)]
+pub(crate) struct Tree<'a> {
+    pub(crate) draft: Draft<'a>,
+    ghost good: { GoodTree (drawn draft) },
 }
 
-// Whether all children of node i are good.
-fn children_fit(
-    nodes: &Table<Node, 512>,
-    children: &[u8],
-    first: &[u16; 513],
-    i: usize,
-    count: usize,
-) -> bool
-    requires is_there { i < length (listed nodes.now) }
-    requires within { (node_at (shape (listed nodes.now) (numbers children.now)) i).first + count ≤ length children.now / 2 }
-    requires few { length children.now / 2 ≤ 1024 }
-    requires claims { Claims (numbers children.now) (length children.now / 2) first.now }
-    ensures all_good { Decides result ((j : ℕ) → j < count → GoodChild (shape (listed nodes.now) (numbers children.now)) i j) }
-{
-    for j in 0..count {
-        if !child_fits(nodes, children, first, i, j) {
+impl<'a> Draft<'a> {
+    // The sort of a node by its number, none for 0.
+    fn sort_of(&self, c: usize) -> Option<Sort>
+        requires is_there { c ≤ length (drawn self.now).nodes }
+        ensures its_own { result ≡ sort_at (drawn self.now) c }
+    {
+        let i = c.checked_sub(1)?;
+        Some(self.nodes[i].kind.sort())
+    }
+
+    // All child counts together: where the last node's children end.
+    fn total_count(&self) -> usize
+        ensures is_their_sum { result ≡ total (drawn self.now).nodes }
+    {
+        let last = self.nodes[self.nodes.len() - 1];
+        last.first as usize + last.count as usize
+    }
+
+    // A tree, or the first of the tree rules that is broken.
+    pub(crate) fn check_tree(&self) -> Result<Tree<'a>, Fault>
+        ensures itself_or_the_first_refused { MatchResult result (λ t. t.draft ≡ self.now) (TreeFault (drawn self.now)) }
+    {
+        if self.total_count() != self.child_count() {
+            return Err(Fault::of_part(Refusal::Tree, Part::Whole));
+        }
+        let claimed = Claimed {
+            draft: *self,
+            first: self.first_claims(),
+        };
+        // By place: which rules a node has goes by its place among the nodes.
+        for i in 0..self.nodes.len() {
+            claimed.check_node(i)?;
+        }
+        Ok(Tree { draft: *self })
+    }
+}
+
+// That i is a node's place is asked at each, and of the marks: a type of such places would be made anew
+// at each call.
+impl<'a> Claimed<'a> {
+    // Whether the child at a place among all children is the first to name node number c.
+    #[tactic(auto, using(crate::proofs::Times::claim_from, crate::proofs::Times::from_claim))]
+    fn is_first(&self, c: usize, q: usize) -> bool
+        requires is_a_number { c < 513 }
+        requires is_a_place { q < 1024 }
+        ensures has_the_claim { Decides result (slice_index_or self.now.first c None ≡ Some q) }
+    {
+        let claim = self.first[c];
+        claim == Some(q as u16)
+    }
+
+    // Whether the child at place j of node i is good.
+    fn child_fits(&self, i: usize, j: usize) -> bool
+        requires is_there { i < length (drawn self.now.draft).nodes }
+        requires has_the_place { j < (node_at (drawn self.now.draft) i).count }
+        ensures is_good { Decides result (GoodChild (drawn self.now.draft) i j) }
+    {
+        let node = self.draft.nodes[i];
+        let q = node.first as usize + j;
+        let c = self.draft.child_number(q) as usize;
+        if c > i {
             return false;
         }
+        if !node.kind.slot(j).admits(self.draft.sort_of(c)) {
+            return false;
+        }
+        c == 0 || self.is_first(c, q)
     }
-    true
-}
 
-// The rules at node i, or refusal 5 at its record.
-fn check_node(
-    nodes: &Table<Node, 512>,
-    children: &[u8],
-    first: &[u16; 513],
-    i: usize,
-) -> Result<(), Fault>
-    requires is_there { i < length (listed nodes.now) }
-    requires within { (node_at (shape (listed nodes.now) (numbers children.now)) i).first + (node_at (shape (listed nodes.now) (numbers children.now)) i).count ≤ length children.now / 2 }
-    requires few { length children.now / 2 ≤ 1024 }
-    requires claims { Claims (numbers children.now) (length children.now / 2) first.now }
-    ensures good_or_refused { MatchResult result
-        (λ _. GoodNode (shape (listed nodes.now) (numbers children.now)) i)
-        (λ f. FaultAt Refusal.Tree Part.Nodes i f × (GoodNode (shape (listed nodes.now) (numbers children.now)) i → ⊥)) }
-{
-    let fault = Fault {
-        refusal: Refusal::Tree,
-        part: Part::Nodes,
-        record: i as u16 + 1,
-    };
-    let node = nodes.at(i);
-    let is_last = i + 1 == nodes.len();
-    if node.kind.sort().is(Sort::Body) != is_last {
-        return Err(fault);
+    // Whether all children of node i are good.
+    fn children_fit(&self, i: usize) -> bool
+        requires is_there { i < length (drawn self.now.draft).nodes }
+        ensures all_good { Decides result ((j : ℕ) → j < (node_at (drawn self.now.draft) i).count → GoodChild (drawn self.now.draft) i j) }
+    {
+        // Tried with `all` over the places: its proof did not close.
+        for j in 0..self.draft.nodes[i].count as usize {
+            if !self.child_fits(i, j) {
+                return false;
+            }
+        }
+        true
     }
-    if !is_last && first[i + 1] == 0 {
-        return Err(fault);
-    }
-    if !children_fit(nodes, children, first, i, node.count as usize) {
-        return Err(fault);
-    }
-    Ok(())
-}
 
-// All child counts together: where the last node's children end.
-fn total_count(nodes: &Table<Node, 512>) -> usize
-    requires some { 1 ≤ length (listed nodes.now) }
-    requires laid_out { LaidOut (shape (listed nodes.now) []) }
-    ensures is_their_sum { result ≡ total (listed nodes.now) }
-{
-    let last = nodes.at(nodes.len() - 1);
-    last.first as usize + last.count as usize
-}
-
-// The tree rules, or the first that is broken.
-pub(crate) fn check_tree(nodes: &Table<Node, 512>, children: &[u8]) -> Result<(), Fault>
-    requires some { 1 ≤ length (listed nodes.now) }
-    requires laid_out { LaidOut (shape (listed nodes.now) []) }
-    requires few { length children.now / 2 ≤ 1024 }
-    ensures good_or_the_first_refused { MatchResult result
-        (λ _. GoodTree (shape (listed nodes.now) (numbers children.now)))
-        (TreeFault (shape (listed nodes.now) (numbers children.now))) }
-{
-    if total_count(nodes) != children.len() / 2 {
-        return Err(Fault {
-            refusal: Refusal::Tree,
-            part: Part::Whole,
-            record: 0,
-        });
+    // The rules at node i, or refusal 5 at its record.
+    fn check_node(&self, i: usize) -> Result<(), Fault>
+        requires is_there { i < length (drawn self.now.draft).nodes }
+        ensures good_or_refused { MatchResult result
+            (λ _. GoodNode (drawn self.now.draft) i)
+            (λ f. FaultAt Refusal.Tree Part.Nodes i f × (GoodNode (drawn self.now.draft) i → ⊥)) }
+    {
+        let refused = Err(Fault::at_record(Refusal::Tree, Part::Nodes, i));
+        let is_last = i + 1 == self.draft.nodes.len();
+        if (self.draft.nodes[i].kind.sort() == Sort::Body) != is_last {
+            return refused;
+        }
+        let claim = self.first[i + 1];
+        if !is_last && claim.is_none() {
+            return refused;
+        }
+        if !self.children_fit(i) {
+            return refused;
+        }
+        Ok(())
     }
-    let first = first_claims(children);
-    for i in 0..nodes.len() {
-        check_node(nodes, children, &first, i)?;
-    }
-    Ok(())
 }

@@ -1,19 +1,10 @@
 -- Lists of a table's records.
-use Rattle.std.proofs.Common.{◌≡◌, ℕ, zero, suc, ◌+◌, ◌<◌, ◌≤◌, Bool, true, ltb, List, [], ◌∷◌, ◌++◌, length, get_or, take, Some, None, sym, refl, ap, ◌∙◌, ⊎_elim, add-one, arith}
+use Rattle.std.proofs.Common.{◌≡◌, ℕ, zero, suc, ◌+◌, ◌<◌, ◌≤◌, Bool, true, ltb, List, [], ◌∷◌, ◌++◌, length, get_or, set, take, Some, None, sym, refl, ap, ◌∙◌, ⊎_elim, add-one, arith}
 use Rattle.std.proofs.lemmas.List.{length_push, get_or_push, get_or_append_left, length-take, take-append-le, take_all}
+use Rattle.std.proofs.Math.Seq.{take-set-lt}
 use Rattle.std.proofs.lemmas.Bool.{cases_eq, lt-ltb}
 use Rattle.table.specs.declared.Table.{Table}
 use Rattle.table.specs.Tables.{after_push, found, listed, tabulated}
-
-pub found_in : {X : Type 0} (xs : List X) (i : ℕ) (d : X) → i < length xs → found xs i ≡ Some (get_or xs i d)
-found_in [] i d h = absurd (omega arith)
-found_in (x ∷ xs) zero d h = refl
-found_in (x ∷ xs) (suc i) d h = found_in xs i d (omega arith)
-
-pub found_past : {X : Type 0} (xs : List X) (i : ℕ) → length xs ≤ i → found xs i ≡ None
-found_past [] i h = refl
-found_past (x ∷ xs) zero h = absurd (omega arith)
-found_past (x ∷ xs) (suc i) h = found_past xs i (omega arith)
 
 pub tabulated_none : {X : Type 0} (f : ℕ → X) → tabulated f 0 ≡ []
 unfolding tabulated
@@ -64,3 +55,7 @@ pub found_some : {X : Type 0} (xs : List X) (i : ℕ) (x d : X) → found xs i �
 found_some [] i x d h = let z : ◌≡◌ {A = ℕ} 0 1 = cc in absurd (omega arith)
 found_some (y ∷ ys) zero x d h = (omega arith, cc)
 found_some (y ∷ ys) (suc i) x d h = let p = found_some ys i x d h in (omega (arith, p.0), p.1)
+
+-- a record replaced among those that count
+pub put_among : {T : Type 0} (xs : List T) (n i : ℕ) (x : T) → i < n → take n (set xs i x) ≡ set (take n xs) i x
+put_among xs n i x h = take-set-lt n xs i x h

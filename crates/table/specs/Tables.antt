@@ -1,5 +1,5 @@
 -- Tables as lists.
-use Rattle.std.specs.Prelude.{ℕ, zero, suc, Bool, cond, List, [], ◌∷◌, ◌++◌, take, Some, None, Option}
+use Rattle.std.specs.Prelude.{ℕ, zero, suc, Bool, cond, List, [], ◌∷◌, ◌++◌, take, Option, slice_get}
 use Rattle.table.specs.declared.Table.{Table}
 
 -- the records that count, in order
@@ -12,9 +12,7 @@ after_push room xs x = cond room (xs ++ (x ∷ [])) xs
 
 -- what stands at place i of a list, or nothing past its end
 abbrev pub found : {X : Type 0} → List X → ℕ → Option X
-found [] i = None
-found (x ∷ xs) zero = Some x
-found (x ∷ xs) (suc i) = found xs i
+found xs i = slice_get xs i
 
 -- the list of f 0, f 1, .. below n
 unfoldable pub tabulated : {X : Type 0} → (ℕ → X) → ℕ → List X

@@ -1,10 +1,12 @@
-// What each table does with its records.
-ghost use Rattle.std.specs.Prelude.{◌≡◌, ℕ, ◌+◌, ◌-◌, ◌<◌, ◌≤◌, [], ◌∷◌, ◌++◌, map, length, take, replicate, Some, None, slice_index_or, slice_set};
-ghost use Rattle.reach.specs.Blank.{bare_entry, bare_scope, blank_scope, ending, no_scope, parent_of};
+// What the scopes, and the scopes recorded for expressions, do with their records.
+ghost use Rattle.std.specs.Prelude.{◌≡◌, ℕ, ◌+◌, ◌-◌, ◌<◌, ◌≤◌, [], ◌∷◌, ◌++◌, length, replicate, Some, None, MatchOption, slice_index_or, slice_set};
+ghost use Rattle.reach.specs.Blank.{blank_scope, ending, parent_of};
+ghost use Rattle.builder.specs.Told.{Stands, bare_scopes, scopes_in};
 
-use crate::tables::{Entries, Recorded, Scopes};
-use format::ids::{BindingId, HygieneId, Name, NodeId, ScopeId};
-use reach::data::{ScopeData, ScopeEntry, ScopeKind};
+use crate::tables::{Recorded, Scopes};
+use format::ids::{NodeId, ScopeId};
+use reach::data::{ScopeData, ScopeKind};
+use table::Table;
 
 const BLANK_SCOPE: ScopeData = ScopeData {
     parent: None,
@@ -13,77 +15,54 @@ const BLANK_SCOPE: ScopeData = ScopeData {
     end: 0,
 };
 
-const BLANK_ENTRY: ScopeEntry = ScopeEntry {
-    name: Name(0),
-    hygiene: HygieneId(0),
-    binding: BindingId(0),
-    scope: ScopeId(0),
-};
-
 impl Scopes {
     // The root scope alone.
     pub(crate) fn root() -> Scopes
-        ensures one { result.len ≡ 1 }
-        ensures is_blank { result.records ≡ replicate 1023 blank_scope }
-        ensures it_alone { map bare_scope (take result.len result.records) ≡ no_scope ∷ [] }
+        ensures it_alone { scopes_in result ≡ blank_scope ∷ [] }
     {
-        Scopes {
-            records: [BLANK_SCOPE; 1023],
-            len: 1,
-        }
+        let mut table = Table::new(BLANK_SCOPE);
+        table.push(BLANK_SCOPE);
+        Scopes { table }
+    }
+
+    // How many scopes there are, which is the number of the last.
+    pub fn count(&self) -> u16
+        ensures counts_them { result ≡ length (scopes_in self.now) }
+        ensures fits { result ≤ 1023 }
+    {
+        self.table.len() as u16
+    }
+
+    // A scope's record, by its number from 1.
+    pub fn get(&self, s: ScopeId) -> Option<ScopeData>
+        ensures its_own_or_none { MatchOption result
+            (Stands self.now s → ⊥)
+            (λ d. Stands self.now s × (d ≡ slice_index_or (scopes_in self.now) (s.0 - 1) blank_scope)) }
+    {
+        self.table.get(s.0.checked_sub(1)? as usize)
     }
 
     // One scope more; its number.
     pub(crate) fn push(&mut self, scope: ScopeData) -> ScopeId
-        requires room { self.old.len < 1023 }
-        requires above { parent_of scope.parent ≤ self.old.len }
+        requires room { length (scopes_in self.old) < 1023 }
+        requires above { parent_of scope.parent ≤ length (scopes_in self.old) }
         requires rooted { 0 < parent_of scope.parent }
-        ensures is_last { result.0 ≡ self.new.len }
-        ensures is_next { result ≡ record { 0 = length (map bare_scope (take self.old.len self.old.records)) + 1 } }
-        ensures one_more { self.new.len ≡ self.old.len + 1 }
-        ensures written { self.new.records ≡ slice_set self.old.records self.old.len scope }
-        ensures within { self.old.len < length self.old.records }
-        ensures at_the_end { map bare_scope (take self.new.len self.new.records) ≡ map bare_scope (take self.old.len self.old.records) ++ (bare_scope scope ∷ []) }
+        ensures is_next { result ≡ record { 0 = length (scopes_in self.old) + 1 } }
+        ensures at_the_end { scopes_in self.new ≡ scopes_in self.old ++ (scope ∷ []) }
     {
-        let at = self.len;
-        self.records[at as usize] = scope;
-        self.len = at + 1;
-        ScopeId(at + 1)
+        self.table.push(scope);
+        ScopeId(self.count())
     }
 
     // Lets a scope's range of entries end at a place.
     pub(crate) fn widen(&mut self, s: ScopeId, end: u16)
-        requires there { (0 < s.0) × (s.0 ≤ self.old.len) }
-        ensures as_many { self.new.len ≡ self.old.len }
-        ensures written { self.new.records ≡ slice_set self.old.records (s.0 - 1) (ending end (slice_index_or self.old.records (s.0 - 1) blank_scope)) }
-        ensures within { s.0 - 1 < length self.old.records }
-        ensures same_tree { map bare_scope (take self.new.len self.new.records) ≡ map bare_scope (take self.old.len self.old.records) }
+        requires there { Stands self.old s }
+        ensures written { scopes_in self.new ≡ slice_set (scopes_in self.old) (s.0 - 1) (ending end (slice_index_or (scopes_in self.old) (s.0 - 1) blank_scope)) }
+        ensures same_tree { bare_scopes self.new ≡ bare_scopes self.old }
     {
-        self.records[s.0 as usize - 1].end = end;
-    }
-}
-
-impl Entries {
-    pub(crate) fn new() -> Entries
-        ensures none { result.len ≡ 0 }
-        ensures lists_nothing { map bare_entry (take result.len result.records) ≡ [] }
-    {
-        Entries {
-            records: [BLANK_ENTRY; 512],
-            len: 0,
-        }
-    }
-
-    pub(crate) fn push(&mut self, entry: ScopeEntry)
-        requires room { self.old.len < 512 }
-        ensures one_more { self.new.len ≡ self.old.len + 1 }
-        ensures written { self.new.records ≡ slice_set self.old.records self.old.len entry }
-        ensures within { self.old.len < length self.old.records }
-        ensures at_the_end { map bare_entry (take self.new.len self.new.records) ≡ map bare_entry (take self.old.len self.old.records) ++ (bare_entry entry ∷ []) }
-    {
-        let at = self.len;
-        self.records[at as usize] = entry;
-        self.len = at + 1;
+        let k = s.0 as usize - 1;
+        let scope = self.table.as_slice()[k];
+        self.table.set(k, ScopeData { end, ..scope });
     }
 }
 
@@ -99,6 +78,6 @@ impl Recorded {
     pub(crate) fn put(&mut self, n: NodeId, s: ScopeId)
         ensures that_one { self.new.records ≡ slice_set self.old.records (n.raw - 1) (Some s) }
     {
-        self.records[n.raw as usize - 1] = Some(s);
+        self.records[n.index()] = Some(s);
     }
 }

@@ -4,22 +4,19 @@ ghost use Rattle.format.specs.Ids.{number_of};
 ghost use Rattle.reach.specs.Held.{shape_of};
 ghost use Rattle.reach.specs.Shape.{node_at};
 ghost use Rattle.reach.specs.Visit.{added, all, each, inner, labelled, made, opened, others, put, self_in, selfed, size_of, sizes, skip, step, total, visit_of, visits};
-ghost use Rattle.builder.specs.Told.{Grown, Inside, Room, told};
+ghost use Rattle.builder.specs.Told.{Grew, Grown, Inside, Room, Stands, entry_count, scope_count, told};
 
 use crate::tables::Tables;
 use format::ids::{BindingId, BlockId, HygieneId, LabelId, Name, NodeId, ScopeId};
 use format::kind::NodeKind;
 use reach::data::{Place, ScopeData, ScopeEntry, ScopeKind};
 use sheet::body::Body;
-use sheet::node::Node;
+use sheet::node::{BLANK_NODE, Node};
 
 fn labelled_kind(label: Option<LabelId>) -> ScopeKind
     ensures by_the_label { result ≡ labelled label }
 {
-    match label {
-        Some(label) => ScopeKind::Label(label),
-        None => ScopeKind::Plain,
-    }
+    label.map_or(ScopeKind::Plain, ScopeKind::Label)
 }
 
 // The node of a number, with the laws of its visit and its size.
@@ -31,27 +28,19 @@ pub(crate) fn look(body: &Body, n: NodeId) -> Node
     ensures second { slice_index (sizes (shape_of body.now) n.raw) 1 + slice_index (sizes (shape_of body.now) n.raw) 2 ≤ total (drop 1 (sizes (shape_of body.now) n.raw)) }
     ensures pairs { total (drop 1 (sizes (shape_of body.now) n.raw)) ≡ slice_index (sizes (shape_of body.now) n.raw) 1 + (total (others (drop 2 (sizes (shape_of body.now) n.raw))) + total (others (drop 3 (sizes (shape_of body.now) n.raw)))) }
 {
-    match body.node(n) {
-        Some(node) => node,
-        None => Node {
-            kind: NodeKind::Leaf,
-            first: 0,
-            count: 0,
-        },
-    }
+    body.node(n).unwrap_or(BLANK_NODE)
 }
 
 impl Tables {
+    #[tactic(auto, unfolding(reach::specs::Visit::made))]
     fn make(&mut self, parent: ScopeId, kind: ScopeKind) -> ScopeId
-        requires room { self.old.scopes.len < 1023 }
-        requires above { parent.0 ≤ self.old.scopes.len }
-        requires real { 0 < parent.0 }
-        ensures number { result.0 ≡ self.new.scopes.len }
+        requires room { scope_count self.old < 1023 }
+        requires there { Stands self.old.scopes parent }
+        ensures there { Stands self.new.scopes result }
         ensures is { made kind parent (told self.old) ≡ (told self.new, result) }
-        ensures grown { self.new.scopes.len ≡ self.old.scopes.len + 1 }
-        ensures kept { self.new.entries.len ≡ self.old.entries.len }
+        ensures grew { Grew self.old self.new 1 0 }
     {
-        let at = self.entries.len;
+        let at = self.entries.len() as u16;
         self.scopes.push(ScopeData {
             parent: Some(parent),
             kind,
@@ -60,21 +49,21 @@ impl Tables {
         })
     }
 
+    #[tactic(auto, unfolding(reach::specs::Visit::put))]
     fn place(&mut self, n: NodeId, s: ScopeId)
         ensures is { put n.raw s (told self.old) ≡ told self.new }
-        ensures scopes { self.new.scopes.len ≡ self.old.scopes.len }
-        ensures entries { self.new.entries.len ≡ self.old.entries.len }
+        ensures grew { Grew self.old self.new 0 0 }
     {
         self.recorded.put(n, s);
     }
 
     // An entry to a scope, whose range then ends after it. Its name is filled in at the end.
+    #[tactic(auto, unfolding(reach::specs::Visit::added))]
     pub(crate) fn enter(&mut self, s: ScopeId, binding: BindingId)
-        requires room { self.old.entries.len < 512 }
-        requires there { (0 < s.0) × (s.0 ≤ self.old.scopes.len) }
+        requires room { entry_count self.old < 512 }
+        requires there { Stands self.old.scopes s }
         ensures is { added binding s (told self.old) ≡ told self.new }
-        ensures scopes { self.new.scopes.len ≡ self.old.scopes.len }
-        ensures grown { self.new.entries.len ≡ self.old.entries.len + 1 }
+        ensures grew { Grew self.old self.new 0 1 }
     {
         self.entries.push(ScopeEntry {
             name: Name(0),
@@ -82,17 +71,16 @@ impl Tables {
             binding,
             scope: s,
         });
-        self.scopes.widen(s, self.entries.len);
+        let end = self.entries.len() as u16;
+        self.scopes.widen(s, end);
     }
 
     fn open(&mut self, id: Option<BlockId>, label: Option<LabelId>, at: Place) -> Place
-        requires room { self.old.scopes.len + 2 ≤ 1023 }
+        requires room { scope_count self.old + 2 ≤ 1023 }
         requires inside { Inside self.old at }
         ensures inside { Inside self.new result }
-        ensures more { self.old.scopes.len ≤ self.new.scopes.len }
         ensures is { opened id label at (told self.old) ≡ (told self.new, result) }
-        ensures grown { self.new.scopes.len ≤ self.old.scopes.len + 2 }
-        ensures kept { self.new.entries.len ≡ self.old.entries.len }
+        ensures grew { Grew self.old self.new 2 0 }
     {
         match id {
             Some(id) => {
@@ -102,34 +90,31 @@ impl Tables {
             }
             None => {
                 let current = self.make(at.current, labelled_kind(label));
-                Place {
-                    current,
-                    constant: at.constant,
-                }
+                Place { current, ..at }
             }
         }
     }
 
     // A scope of a kind beneath the current one, which it replaces.
+    #[tactic(auto, unfolding(reach::specs::Visit::inner))]
     fn deepen(&mut self, kind: ScopeKind, at: Place) -> Place
-        requires room { self.old.scopes.len < 1023 }
+        requires room { scope_count self.old < 1023 }
         requires inside { Inside self.old at }
         ensures is { inner kind at (told self.old) ≡ (told self.new, result) }
         ensures inside { Inside self.new result }
-        ensures grown { self.new.scopes.len ≡ self.old.scopes.len + 1 }
-        ensures kept { self.new.entries.len ≡ self.old.entries.len }
+        ensures grew { Grew self.old self.new 1 0 }
     {
         let current = self.make(at.current, kind);
-        Place {
-            current,
-            constant: at.constant,
-        }
+        Place { current, ..at }
     }
 }
 
+// The body, the node and the place go through the whole visit and differ at each call, so they are handed
+// on one by one.
 impl Tables {
     // Visits node n at a place, and gives the place that what follows it is visited at.
     #[cycle(visit_visit_at_visit_each_visit_from_visit_pairs)]
+    #[tactic(auto, unfolding(reach::specs::Visit::step))]
     fn visit(&mut self, body: &Body, n: NodeId, at: Place) -> Place
         requires room { Room self.old at (size_of (shape_of body.now) n.raw) }
         ensures is { visit_of (shape_of body.now) n.raw at (told self.old) ≡ (told self.new, result) }
@@ -141,11 +126,7 @@ impl Tables {
             constant: at.constant,
         };
         match node.kind {
-            NodeKind::Leaf => {
-                self.place(n, at.current);
-                at
-            }
-            NodeKind::Use { .. } => {
+            NodeKind::Leaf | NodeKind::Use { .. } => {
                 self.place(n, at.current);
                 at
             }
@@ -208,38 +189,26 @@ impl Tables {
                 self.visit_at(body, n, 0, still);
                 at
             }
-            NodeKind::Repeat => {
+            NodeKind::Repeat | NodeKind::Cast => {
                 self.place(n, at.current);
                 self.visit_at(body, n, 0, at);
                 self.visit_at(body, n, 1, still);
                 at
             }
-            NodeKind::Cast => {
-                self.place(n, at.current);
-                self.visit_at(body, n, 0, at);
-                self.visit_at(body, n, 1, still);
-                at
-            }
-            NodeKind::LeafPattern => at,
+            NodeKind::LeafPattern
+            | NodeKind::LeafType
+            | NodeKind::OtherItem
+            | NodeKind::Body { .. } => at,
             NodeKind::Bind { binding } => {
                 self.enter(at.current, binding);
                 self.visit_each(body, n, 0, at);
                 at
             }
-            NodeKind::Patterns => {
+            NodeKind::Patterns | NodeKind::ValuePattern => {
                 self.visit_each(body, n, 0, at);
                 at
             }
-            NodeKind::ValuePattern => {
-                self.visit_each(body, n, 0, at);
-                at
-            }
-            NodeKind::LeafType => at,
-            NodeKind::Types => {
-                self.visit_each(body, n, 0, still);
-                at
-            }
-            NodeKind::ArrayType => {
+            NodeKind::Types | NodeKind::ArrayType => {
                 self.visit_each(body, n, 0, still);
                 at
             }
@@ -258,7 +227,6 @@ impl Tables {
                 let constant = self.make(at.constant, ScopeKind::MacroDef(id));
                 Place { current, constant }
             }
-            NodeKind::OtherItem => at,
             NodeKind::Arm => {
                 let opened = self.deepen(ScopeKind::Plain, at);
                 self.visit_at(body, n, 0, opened);
@@ -266,12 +234,12 @@ impl Tables {
                 self.visit_at(body, n, 2, held);
                 at
             }
-            NodeKind::Body { .. } => at,
         }
     }
 
     // Visits the child of n at a place, if there is one.
     #[cycle(visit_visit_at_visit_each_visit_from_visit_pairs)]
+    #[tactic(auto, using(reach::proofs::Fold::below_read))]
     pub(crate) fn visit_at(&mut self, body: &Body, n: NodeId, i: u16, at: Place) -> Place
         requires room { Room self.old at (slice_index (sizes (shape_of body.now) n.raw) i) }
         ensures is { slice_index_or (visits (shape_of body.now) n.raw) i skip at (told self.old) ≡ (told self.new, result) }
@@ -285,21 +253,22 @@ impl Tables {
 
     // Visits every second child of n from a place on, each at the same place.
     #[cycle(visit_visit_at_visit_each_visit_from_visit_pairs)]
+    #[tactic(auto, using(reach::proofs::Fold::pairs_step, reach::proofs::Fold::pairs_turn))]
     fn visit_pairs(&mut self, body: &Body, n: NodeId, from: u16, at: Place)
         requires room { Room self.old at (total (others (drop from (sizes (shape_of body.now) n.raw)))) }
         ensures is { each (others (drop from (visits (shape_of body.now) n.raw))) at (told self.old) ≡ told self.new }
         ensures grown { Grown self.old self.new at (total (others (drop from (sizes (shape_of body.now) n.raw)))) }
     {
         let node = look(body, n);
-        let mut i = from as usize;
-        while i < node.count as usize {
-            self.visit_at(body, n, i as u16, at);
-            i += 2;
+        // By place, here and below: a node's tree is defined by the places of its children.
+        for i in (from..node.count).step_by(2) {
+            self.visit_at(body, n, i, at);
         }
     }
 
     // Visits the children of n from a place on, each at the same place.
     #[cycle(visit_visit_at_visit_each_visit_from_visit_pairs)]
+    #[tactic(auto, using(reach::proofs::Fold::total_step, reach::proofs::Fold::each_turn))]
     pub(crate) fn visit_each(&mut self, body: &Body, n: NodeId, from: u16, at: Place)
         requires room { Room self.old at (total (drop from (sizes (shape_of body.now) n.raw))) }
         ensures is { each (drop from (visits (shape_of body.now) n.raw)) at (told self.old) ≡ told self.new }
@@ -313,6 +282,7 @@ impl Tables {
 
     // Visits the children of n from a place on, each at the place that the one before left.
     #[cycle(visit_visit_at_visit_each_visit_from_visit_pairs)]
+    #[tactic(auto, using(reach::proofs::Fold::total_step, reach::proofs::Fold::all_turn))]
     fn visit_from(&mut self, body: &Body, n: NodeId, from: u16, at: Place) -> Place
         requires room { Room self.old at (total (drop from (sizes (shape_of body.now) n.raw))) }
         ensures is { all (drop from (visits (shape_of body.now) n.raw)) at (told self.old) ≡ (told self.new, result) }

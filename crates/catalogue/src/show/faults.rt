@@ -1,7 +1,7 @@
 // A refusal as text: its number and its cause, and where in the sheet.
 ghost use Rattle.std.specs.Prelude.{◌<◌, length};
 
-use format::fault::{Fault, Part, Refusal};
+use framing::fault::{Fault, Part, Refusal};
 use std::fmt;
 
 fn cause(refusal: Refusal) -> &'static str
@@ -15,6 +15,8 @@ fn cause(refusal: Refusal) -> &'static str
         Refusal::Tree => "the nodes and their children make no tree of a body",
         Refusal::LetPlace => "a let stands where no condition is",
         Refusal::NameOrFrame => "a binding's name or a frame is bad",
+        Refusal::ItemRecord => "a record of an item sheet is bad",
+        Refusal::KeyOrder => "the keys of an item sheet's records do not rise",
     }
 }
 
@@ -27,6 +29,9 @@ fn section(part: Part) -> &'static str
         Part::Children => "children",
         Part::Bindings => "bindings",
         Part::Frames => "frames",
+        Part::Items => "items",
+        Part::Constants => "constants",
+        Part::Expansions => "expansions",
     }
 }
 

@@ -1,7 +1,7 @@
 // The kinds of node as text.
 ghost use Rattle.std.specs.Prelude.{◌<◌, length};
 
-use format::ids::{BindingId, BlockId, LabelId};
+use crate::show::numbers::write_number;
 use format::kind::NodeKind;
 use std::fmt;
 
@@ -39,27 +39,6 @@ fn word(kind: NodeKind) -> &'static str
     }
 }
 
-fn write_block<W: fmt::Write>(id: Option<BlockId>, f: &mut fmt::Formatter<W>) -> fmt::Result {
-    match id {
-        Some(id) => write!(f, " {}", id.0),
-        None => Ok(()),
-    }
-}
-
-fn write_label<W: fmt::Write>(label: Option<LabelId>, f: &mut fmt::Formatter<W>) -> fmt::Result {
-    match label {
-        Some(label) => write!(f, ", label {}", label.0),
-        None => Ok(()),
-    }
-}
-
-fn write_self<W: fmt::Write>(own: Option<BindingId>, f: &mut fmt::Formatter<W>) -> fmt::Result {
-    match own {
-        Some(binding) => write!(f, ", self is binding {}", binding.0),
-        None => Ok(()),
-    }
-}
-
 #[derive(Clone, Copy)]
 pub struct KindText(pub NodeKind);
 
@@ -71,13 +50,15 @@ impl fmt::Display for KindText {
                 write!(f, " of name {}, hygiene {}", name.0, hygiene.0)
             }
             NodeKind::Block { id, label } => {
-                write_block(id, f)?;
-                write_label(label, f)
+                write_number(" ", id.map(|id| id.0), f)?;
+                write_number(", label ", label.map(|label| label.0), f)
             }
-            NodeKind::Loop { label } => write_label(label, f),
+            NodeKind::Loop { label } => { write_number(", label ", label.map(|label| label.0), f) }
             NodeKind::Bind { binding } => write!(f, " of binding {}", binding.0),
             NodeKind::MacroDef { id } => write!(f, " of macro {}", id.0),
-            NodeKind::Body { self_binding } => write_self(self_binding, f),
+            NodeKind::Body { self_binding } => {
+                write_number(", self is binding ", self_binding.map(|own| own.0), f)
+            }
             _ => Ok(()),
         }
     }

@@ -13,9 +13,9 @@ pub struct NodeText<'a> {
 
 impl NodeText<'_> {
     // The children place by place, each after a space: its number, or `-` where it is absent.
-    fn children<W: fmt::Write>(&self, count: u16, f: &mut fmt::Formatter<W>) -> fmt::Result {
-        for place in 0..count {
-            match self.body.child(self.id, place) {
+    fn children<W: fmt::Write>(&self, f: &mut fmt::Formatter<W>) -> fmt::Result {
+        for child in self.body.children(self.id) {
+            match child {
                 Some(child) => write!(f, " {}", child.number())?,
                 None => f.write_str(" -")?,
             }
@@ -35,6 +35,6 @@ impl fmt::Display for NodeText<'_> {
             return Ok(());
         }
         f.write_str(", children")?;
-        self.children(node.count, f)
+        self.children(f)
     }
 }

@@ -1,22 +1,17 @@
 // A scope as text: what made it, and the names in it.
-use format::ids::{LabelId, ScopeId};
+use crate::show::numbers::write_number;
+use format::ids::{HygieneId, ScopeId};
 use reach::data::{ScopeEntry, ScopeKind};
 use scope::tables::ExprScopes;
 use std::fmt;
 
-fn write_label<W: fmt::Write>(label: Option<LabelId>, f: &mut fmt::Formatter<W>) -> fmt::Result {
-    match label {
-        Some(label) => write!(f, " label {}", label.0),
-        None => Ok(()),
-    }
-}
-
+// A function and no `Display`, as the next: a part of this one text and of no other.
 fn write_kind<W: fmt::Write>(kind: ScopeKind, f: &mut fmt::Formatter<W>) -> fmt::Result {
     match kind {
         ScopeKind::Plain => f.write_str("plain"),
         ScopeKind::Block { id, label } => {
             write!(f, "block {}", id.0)?;
-            write_label(label, f)
+            write_number(" label ", label.map(|label| label.0), f)
         }
         ScopeKind::Label(label) => write!(f, "label {}", label.0),
         ScopeKind::MacroDef(id) => write!(f, "macro {}", id.0),
@@ -26,7 +21,7 @@ fn write_kind<W: fmt::Write>(kind: ScopeKind, f: &mut fmt::Formatter<W>) -> fmt:
 // Hygiene 0, code that no macro wrote, goes without saying.
 fn write_entry<W: fmt::Write>(entry: ScopeEntry, f: &mut fmt::Formatter<W>) -> fmt::Result {
     write!(f, "name {}", entry.name.0)?;
-    if entry.hygiene.0 != 0 {
+    if entry.hygiene != HygieneId(0) {
         write!(f, " hygiene {}", entry.hygiene.0)?;
     }
     write!(f, " (binding {})", entry.binding.0)
@@ -40,7 +35,8 @@ pub struct ScopeText<'a> {
 }
 
 impl ScopeText<'_> {
-    // The entries of the scope itself, in order of adding. The first place that has none ends them.
+    // The entries of the scope itself, in order of adding. They are asked by place: a tree shows no list
+    // of them, since those of one scope do not lie together. The first place that has none ends them.
     fn entries<W: fmt::Write>(&self, f: &mut fmt::Formatter<W>) -> fmt::Result {
         for place in 0..self.tree.entry_count() {
             let Ok(Some(entry)) = self.tree.entry(self.id, place) else {

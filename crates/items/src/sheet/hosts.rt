@@ -4,7 +4,7 @@ ghost use Rattle.items.specs.Under.{under};
 ghost use Rattle.item_rows.specs.Rows.{by_context, expansion_key};
 ghost use Rattle.std.specs.Prelude.{◌≡◌, []};
 ghost use Rattle.std.proofs.Common.{ap};
-ghost use Rattle.items.specs.Sorted.{root_none};
+ghost use Rattle.items.specs.Root.{root_none};
 
 use crate::seek::seek;
 use crate::sheet::ItemSheet;
@@ -12,32 +12,20 @@ use format::ids::{HygieneId, Name, OwnerId};
 use host::hosts::{ExpansionHost, ItemHost};
 use host::item::{ConstParamId, Item, Outer, PlaceId};
 use item_rows::key::Key;
-use item_rows::rows::{BLANK_CONST, BLANK_EXPANSION, BLANK_ITEM, ConstRow, ExpansionRow, ItemRow};
-use table::Table;
+use item_rows::rows::ExpansionRow;
+use item_rows::tables::Tables;
 
 impl ItemHost for ItemSheet {
     ghost tables = { λ s. sheet_items (items_of s) (consts_of s) };
 
     fn item(&self, place: PlaceId, name: Name) -> Option<Item> {
-        let key = Key {
-            major: place.0,
-            minor: name.0,
-        };
-        match seek(self.items.as_slice(), key) {
-            Some(row) => Some(row.item),
-            None => None,
-        }
+        let key = Key::by_place(place, name);
+        seek(self.tables.items.as_slice(), key).map(|row| row.item)
     }
 
     fn const_param(&self, owner: OwnerId, name: Name) -> Option<ConstParamId> {
-        let key = Key {
-            major: owner.0,
-            minor: name.0,
-        };
-        match seek(self.consts.as_slice(), key) {
-            Some(row) => Some(row.param),
-            None => None,
-        }
+        let key = Key::by_owner(owner, name);
+        seek(self.tables.consts.as_slice(), key).map(|row| row.param)
     }
 }
 
@@ -58,10 +46,7 @@ impl ExpansionHost for ItemSheet {
     }
 
     fn opaque(&self, context: HygieneId) -> HygieneId {
-        match self.expansion(context) {
-            Some(row) => row.opaque,
-            None => context,
-        }
+        self.expansion(context).map_or(context, |row| row.opaque)
     }
 }
 
@@ -73,19 +58,13 @@ impl ItemSheet {
         ensures has_no_expansions { expansions_of result ≡ [] }
     {
         ItemSheet {
-            items: Table::new(BLANK_ITEM),
-            consts: Table::new(BLANK_CONST),
-            expansions: Table::new(BLANK_EXPANSION),
+            tables: Tables::empty(),
         }
     }
 
     fn expansion(&self, context: HygieneId) -> Option<ExpansionRow>
         ensures is_the_contexts { result ≡ under expansion_key (by_context context) (expansions_of self.now) }
     {
-        let key = Key {
-            major: context.0,
-            minor: 0,
-        };
-        seek(self.expansions.as_slice(), key)
+        seek(self.tables.expansions.as_slice(), Key::by_context(context))
     }
 }

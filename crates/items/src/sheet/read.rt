@@ -11,15 +11,12 @@ use item_rows::tables::Tables;
 
 impl ItemSheet {
     // Reads an item sheet. Whatever the bytes are, the answer is a sheet or the first fault.
+    #[tactic(auto, using(crate::proofs::Load::none_apply, crate::proofs::Load::rooted, crate::proofs::Load::unsorted_first))]
     pub fn read(bytes: &[u8]) -> Result<ItemSheet, Fault>
         ensures accepted_or_the_first_cause { MatchResult result (Accepted bytes.now) (First (Applies bytes.now)) }
     {
         let tables = Tables::read(bytes)?;
         check_sorted(&tables)?;
-        Ok(ItemSheet {
-            items: tables.items,
-            consts: tables.consts,
-            expansions: tables.expansions,
-        })
+        Ok(ItemSheet { tables })
     }
 }

@@ -1,11 +1,12 @@
-// The scope tree of a whole body.
-ghost use Rattle.std.specs.Prelude.{◌≡◌, ℕ, ◌≤◌, length, take};
+// What a scope tree promises of its body.
+ghost use Rattle.std.specs.Prelude.{◌≡◌, ℕ, ◌≤◌, length};
 ghost use Rattle.reach.specs.Examples.{ExamplesHold};
 ghost use Rattle.reach.specs.Held.{shape_of};
 ghost use Rattle.reach.specs.Law.{AllRecorded, BlocksHoldNone, EntriesIn, MetOnce, OnlyExpressions, TreeOfScopes};
 ghost use Rattle.reach.specs.Named.{Named};
 ghost use Rattle.reach.specs.Visit.{built};
 ghost use Rattle.reach.specs.Words.{ReachLaw, StaysBelow};
+ghost use Rattle.scope.specs.Queries.{all_entries};
 ghost use Rattle.scope.specs.Told.{told};
 ghost use Rattle.sheet.specs.Held.{bindings_of, nodes_of};
 
@@ -26,14 +27,10 @@ impl ExprScopes {
         ensures sees_no_name_beyond_what_brings_it { StaysBelow }
         ensures meets_one_list_from_each_scope { MetOnce }
         ensures holds_just_what_reaches { EntriesIn (shape_of body.now) (length (nodes_of body.now)) (told result) }
-        ensures names_each_entry { Named (bindings_of body.now) (take result.entries.len result.entries.records) }
+        ensures names_each_entry { Named (bindings_of body.now) (all_entries result) }
         ensures is_defined_as_worked_out { ExamplesHold }
     {
         let tables = Tables::of_body(body);
-        ExprScopes {
-            scopes: tables.scopes,
-            entries: tables.entries,
-            recorded: tables.recorded,
-        }
+        ExprScopes { tables }
     }
 }

@@ -2,7 +2,7 @@
 ghost use Rattle.std.specs.Prelude.{◌≡◌, ℕ, ◌+◌, ◌-◌, ◌<◌, ◌≤◌, length, None, slice_index_or};
 ghost use Rattle.format.specs.Ids.{number_of};
 ghost use Rattle.sheet.specs.Held.{bindings_of, children_of, frames_of, nodes_of, tree_of};
-ghost use Rattle.sheet.specs.Tables.{found};
+ghost use Rattle.table.specs.Tables.{found};
 
 use crate::body::Body;
 use crate::node::{Binding, Frame, Node};
@@ -28,7 +28,7 @@ impl Body {
     pub fn node(&self, n: NodeId) -> Option<Node>
         ensures is_that_node { result ≡ found (nodes_of self.now) (n.raw - 1) }
     {
-        self.nodes.get(n.raw as usize - 1)
+        self.nodes.get(n.index())
     }
 
     // The child at a place, from 0; none where it is absent or there is no such place.
@@ -36,11 +36,22 @@ impl Body {
         ensures is_that_child { result ≡ slice_index_or (children_of self.now (n.raw - 1)) place None }
         ensures is_lower { number_of result < n.raw }
     {
-        let node = self.nodes.get(n.raw as usize - 1)?;
-        if place >= node.count {
-            return None;
+        *self.children(n).get(usize::from(place))?
+    }
+
+    // The children of a node place by place, each of which may be absent; none for a number that no
+    // node has.
+    pub fn children(&self, n: NodeId) -> &[Option<NodeId>]
+        ensures are_its_children { result.now ≡ children_of self.now (n.raw - 1) }
+    {
+        match self.node(n) {
+            Some(node) => {
+                let first = node.first as usize;
+                let end = first + usize::from(node.count);
+                &self.children.as_slice()[first..end]
+            }
+            None => &[],
         }
-        self.children.at(node.first as usize + place as usize)
     }
 
     pub fn child_count(&self) -> usize
@@ -55,21 +66,33 @@ impl Body {
         self.bindings.len()
     }
 
+    // The bindings, of which the first has the number 1.
+    pub fn bindings(&self) -> &[Binding]
+        ensures are_the_bindings { result.now ≡ bindings_of self.now }
+    {
+        self.bindings.as_slice()
+    }
+
     // A binding by its number, from 1.
     pub fn binding(&self, b: BindingId) -> Option<Binding>
         ensures none_for_0 { b.0 ≡ 0 → result ≡ None }
         ensures is_that_binding { 0 < b.0 → result ≡ found (bindings_of self.now) (b.0 - 1) }
     {
-        if b.0 == 0 {
-            return None;
-        }
-        self.bindings.get(b.0 as usize - 1)
+        let i = b.0.checked_sub(1)?;
+        self.bindings.get(i as usize)
     }
 
     pub fn frame_count(&self) -> usize
         ensures counts_the_frames { result ≡ length (frames_of self.now) }
     {
         self.frames.len()
+    }
+
+    // The frames, the outermost first.
+    pub fn frames(&self) -> &[Frame]
+        ensures are_the_frames { result.now ≡ frames_of self.now }
+    {
+        self.frames.as_slice()
     }
 
     // A frame by its place from 0, the outermost.

@@ -1,7 +1,12 @@
-use Rattle.std.proofs.Common.{arith, rules}
+use Rattle.std.proofs.Common.{◌≡◌, ◌+◌, slice_index, ap, ◌∙◌, arith}
 use Rattle.framing.specs.Layout.{u16at}
 use Rattle.framing.proofs.bytes.u16_at.Goals as goal
 
-pub returns : goal.returns
+pub returns-clause-reads_them : goal.returns-clause-reads_them
 unfolding u16at
-returns c = record { reads_them = λ h. search rules; else_0 = λ h. absurd (omega arith) }
+returns-clause-reads_them c h =
+    let bs = c.args.bytes.now in
+    let at = c.args.at in
+    let b0 : slice_index c.bytes_at.result 0 ≡ slice_index bs at = c.bytes_at.ensures.are_those h 0 (omega arith) ∙ ap (slice_index bs) (omega arith) in
+    let b1 : slice_index c.bytes_at.result 1 ≡ slice_index bs (at + 1) = c.bytes_at.ensures.are_those h 1 (omega arith) ∙ ap (slice_index bs) (omega arith) in
+    omega (arith, c.from_be_bytes.ensures, b0, b1)

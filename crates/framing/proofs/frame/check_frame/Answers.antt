@@ -6,14 +6,6 @@ use Rattle.framing.proofs.Firsts.{clear_none, clear_more, first_from}
 use Rattle.framing.proofs.Framed.{clear_length, sound}
 use Rattle.framing.proofs.frame.check_frame.Goals as goal
 
-pub returns-in_err-check_length : goal.returns-in_err-check_length
-returns-in_err-check_length c =
-    let p = err_from_is_err_and c.from_residual-in_err-check_length.result c.from_residual-in_err-check_length.ensures.1 in
-    let cause = Framing c.args.format c.args.bytes.now in
-    let v = c.in_ok-check_version.ensures.version_1_or_refused in
-    let c1 = clear_more cause 0 R.Version refl (clear_none cause) (λ q k w. w.2 v) in
-    rw (p.1, p.2) record { sound_or_the_first_cause = first_from cause 1 R.Length _ refl c1 c.in_err-check_length.ensures.fits_or_the_first_refused }
-
 pub returns-in_err-check_counts : goal.returns-in_err-check_counts
 returns-in_err-check_counts c =
     let p = err_from_is_err_and c.from_residual-in_err-check_counts.result c.from_residual-in_err-check_counts.ensures.1 in

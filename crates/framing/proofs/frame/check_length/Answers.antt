@@ -12,9 +12,6 @@ use Rattle.framing.proofs.frame.check_length.Goals as goal
 pub loop-part-init : goal.loop-part-init
 loop-part-init c = (sym (start_first _ _), omega arith)
 
-pub end_of-requires : goal.end_of-requires
-end_of-requires c = record { within = c.loop-part.invariant.1 }
-
 pub returns-in_err-at : goal.returns-in_err-at
 returns-in_err-at c =
     let p = err_from_is_err_and c.from_residual.result c.from_residual.ensures.1 in
@@ -39,13 +36,3 @@ loop-part-preserved c =
     let i = c.loop-part.part-index in
     let more = subst (λ a. start_at bs plan (i + 1) ≡ end_from bs a (width_of (get_or plan i P.Whole))) (sym c.loop-part.invariant.0) (start_more bs plan i) in
     (h.0 ∙ sym more, h.1)
-
-pub returns-then-at-bytes : goal.returns-then-at-bytes
-returns-then-at-bytes c =
-    let e = end_reached c.args.bytes.now c.args.format _ _ _ c.plan-part-items.ensures.is_its_plan c.loop-part.auto.part-index-end c.loop-part-test.false c.loop-part.invariant.0 in
-    record { fits_or_the_first_refused = whole_first c.args.format c.args.bytes.now _ (λ x. omega (arith, x.none_left, e, c.if-at-bytes.true)) c.refused-then-at-bytes.ensures.at_no_record }
-
-pub returns : goal.returns
-returns c =
-    let e = end_reached c.args.bytes.now c.args.format _ _ _ c.plan-part-items.ensures.is_its_plan c.loop-part.auto.part-index-end c.loop-part-test.false c.loop-part.invariant.0 in
-    record { fits_or_the_first_refused = (omega (arith, c.u32_at.ensures.reads_them (omega arith)), omega (arith, e, c.loop-part.invariant.1, c.if-at-bytes.false)) }

@@ -1,8 +1,8 @@
-use Rattle.std.proofs.Common.{length, sym, ap, ◌∙◌, subst, arith, below_more}
+use Rattle.std.proofs.Common.{sym, ap, ◌∙◌, subst, arith, below_more}
 use Rattle.std.proofs.lemmas.Result.{err_from_is_err_and}
 use Rattle.sheet.specs.Records.{record_at, Said, node_from}
 use Rattle.sheet.proofs.Counts.{begins_none, begins_more, node_read}
-use Rattle.sheet.proofs.Listed.{tabulated_none, length-tabulated, pushed}
+use Rattle.table.proofs.Listed.{tabulated_none, pushed}
 use Rattle.sheet.proofs.nodes.read_nodes.Goals as goal
 
 pub loop-i-init : goal.loop-i-init
@@ -15,9 +15,6 @@ returns-in_err-node c =
     let bad = subst (λ x. Said c.args.bindings x → ⊥) c.node_record.ensures.as_written h.1 in
     rw (p.1, p.2) record { all_read_or_the_first_refused = record { at = c.loop-i.i; fault = h.0; within = c.loop-i-test.true; broken = bad; kept_before = c.loop-i.invariant.3 } }
 
-pub push-requires : goal.push-requires
-push-requires c = (omega arith, omega (arith, ap length c.loop-i.invariant.0, length-tabulated (node_from c.args.nodes.now) c.loop-i.i))
-
 pub loop-i-preserved : goal.loop-i-preserved
 loop-i-preserved c =
     let ns = c.args.nodes.now in
@@ -26,7 +23,7 @@ loop-i-preserved c =
     let e = c.node_record.ensures.as_written in
     let n = c.in_ok-node.node in
     let r = ap (λ y. y.count) e in (
-      pushed (node_from ns) i _ _ _ c.loop-i.invariant.0 (node_read c.args.bindings ns i _ n e h.0 (h.1 ∙ c.loop-i.invariant.1) h.2) c.push.ensures.at_the_end,
+      pushed (node_from ns) i 512 _ _ _ _ (omega arith) c.loop-i.invariant.0 (node_read c.args.bindings ns i _ n e h.0 (h.1 ∙ c.loop-i.invariant.1) h.2) c.push.ensures.says_whether_there_was_room c.push.ensures.adds_it_last_if_there_was,
       omega (arith, begins_more ns i, c.loop-i.invariant.1, h.2, r),
       omega arith,
       below_more (λ k. Said c.args.bindings (record_at ns k)) _ c.loop-i.invariant.3 (subst (Said c.args.bindings) e record { kind = n.kind; says = h.0 }),

@@ -1,6 +1,6 @@
 use Rattle.std.proofs.Common.{◌≡◌, ℕ, ◌*◌, ◌<◌, ◌≤◌}
 use Rattle.sheet.specs.Records.{record_at, Said, begins, node_from}
-use Rattle.sheet.specs.Tables.{listed, tabulated}
+use Rattle.table.specs.Tables.{listed, tabulated}
 use Rattle.sheet.proofs.nodes.read_nodes.Given as goal
 
 abbrev pub invariant-loop-i : goal.invariant-loop-i

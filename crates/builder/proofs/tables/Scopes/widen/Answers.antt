@@ -1,23 +1,13 @@
-use Rattle.std.proofs.Common.{◌-◌, ◌<◌, length, take, sym, refl, ap, ◌∙◌, rules}
-use Rattle.std.proofs.lemmas.List.{take-map}
-use Rattle.reach.specs.Blank.{bare_scope, blank_scope}
-use Rattle.reach.proofs.Slopes.{unseen, widened, widened_root}
+use Rattle.std.proofs.Common.{◌≡◌, ◌-◌, map, get_or, set, refl, ap, ◌∙◌}
+use Rattle.table.specs.Tables.{listed}
+use Rattle.reach.specs.Blank.{bare_scope, blank_scope, ending}
+use Rattle.reach.proofs.Slopes.{unseen}
 use Rattle.builder.proofs.tables.Scopes.widen.Goals as goal
 
-pub invariant_of-self : goal.invariant_of-self
-invariant_of-self c =
-    let t = c.args.self.now in
+pub returns-clause-same_tree : goal.returns-clause-same_tree
+returns-clause-same_tree c =
+    let ss = listed c.args.self.now.table in
     let k = c.args.s.0 - 1 in
-    let l : k < length t.records = search rules in
-    record {
-      whole = search rules;
-      few = search rules;
-      sloping = widened t.records t.len k _ l refl t.sloping;
-      rooted = widened_root t.records t.len k _ l refl t.rooted;
-    }
-
-pub returns : goal.returns
-returns c =
-    let t = c.args.self.now in
-    let k = c.args.s.0 - 1 in
-    record { as_many = refl; written = refl; within = search rules; same_tree = sym (take-map bare_scope t.len _) ∙ (ap (take t.len) (unseen bare_scope t.records k _ blank_scope refl) ∙ take-map bare_scope t.len t.records) }
+    let wide = ending c.args.end (get_or ss k blank_scope) in
+    let is : listed c.set.new.self ≡ set ss k wide = c.set.ensures.puts_it_there ∙ ap (λ xs. set ss k (ending c.args.end (get_or xs k blank_scope))) c.as_slice.ensures.are_the_listed in
+    ap (map bare_scope) is ∙ unseen bare_scope ss k wide blank_scope refl

@@ -1,6 +1,6 @@
 -- Each word of the line is what the call that read it says, and each call goes on where the one before ended.
 use Rattle.std.proofs.Common.{◌≡◌, ℕ, List, subst}
-use Rattle.comparison.specs.Line.{Word}
+use Rattle.words.specs.Line.{Word}
 use Rattle.comparison.proofs.counts.Counts.parse.Goals as goal
 
 same_line : {bs cs w rest : List ℕ} → bs ≡ cs → Word bs w rest → Word cs w rest

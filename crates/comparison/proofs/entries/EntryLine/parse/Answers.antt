@@ -1,6 +1,6 @@
 -- Each word of the line is what the call that read it says, and each call goes on where the one before ended.
 use Rattle.std.proofs.Common.{◌≡◌, ℕ, List, subst}
-use Rattle.comparison.specs.Line.{Labelled}
+use Rattle.words.specs.Line.{Labelled}
 use Rattle.comparison.proofs.entries.EntryLine.parse.Goals as goal
 
 same_line : {bs cs w : List ℕ} {n : ℕ} {rest : List ℕ} → bs ≡ cs → Labelled bs w n rest → Labelled cs w n rest

@@ -1,55 +1,18 @@
-use Rattle.std.proofs.Common.{◌+◌, ◌-◌, ◌<◌, map, length, get_or, take, drop, None, sym, ap, ◌∙◌, arith}
-use Rattle.std.proofs.lemmas.List.{get_or-drop, get_or-map, get_or_past, get_or-take, length-map, length-take}
+use Rattle.std.proofs.Common.{◌≡◌, ◌-◌, ◌<◌, length, get_or, None, sym, ap, ◌∙◌, arith}
+use Rattle.std.proofs.lemmas.Bool.{ltb-true}
+use Rattle.std.proofs.lemmas.List.{get_or_default}
 use Rattle.format.specs.Ids.{number_of}
-use Rattle.sheet.specs.Held.{tree_of}
-use Rattle.sheet.specs.Shape.{blank}
-use Rattle.sheet.specs.Tables.{listed}
-use Rattle.sheet.proofs.Counts.{laid_within}
-use Rattle.sheet.proofs.Listed.{found_none, found_some}
+use Rattle.sheet.specs.Held.{children_of}
+use Rattle.sheet.proofs.Lower.{child_lower}
 use Rattle.sheet.proofs.body.Body.child.Goals as goal
 
-pub returns-in_err-node : goal.returns-in_err-node
-returns-in_err-node c =
+pub returns-clause-is_lower : goal.returns-clause-is_lower
+returns-clause-is_lower c =
     let b = c.args.self.now in
     let i = c.args.n.raw - 1 in
-    let h = found_none (listed b.nodes) i (sym c.get.ensures.is_found_there ∙ c.in_err-node.was) in
-    let e = get_or_past (listed b.nodes) i blank h in
-    rw c.from_residual.ensures record { is_that_child = sym (ap (λ n. get_or (take n.count (drop n.first (listed b.children))) c.args.place None) e); is_lower = omega (arith, c.args.n.real) }
-
-pub returns-then-place-node : goal.returns-then-place-node
-returns-then-place-node c =
-    let b = c.args.self.now in
-    let i = c.args.n.raw - 1 in
-    let h = found_some (listed b.nodes) i c.in_ok-node.node blank (sym c.get.ensures.is_found_there ∙ c.in_ok-node.was) in
-    let n = get_or (listed b.nodes) i blank in
-    record {
-      is_that_child = sym (get_or_past (take n.count (drop n.first (listed b.children))) c.args.place None (omega (arith, length-take n.count (drop n.first (listed b.children)), ap (λ m. m.count) h.1, c.if-place-node.true)));
-      is_lower = omega (arith, c.args.n.real);
-    }
-
-pub at-requires : goal.at-requires
-at-requires c =
-    let b = c.args.self.now in
-    let i = c.args.n.raw - 1 in
-    let h = found_some (listed b.nodes) i c.in_ok-node.node blank (sym c.get.ensures.is_found_there ∙ c.in_ok-node.was) in
-    let w = laid_within (tree_of b) i b.laid_out h.0 in
-    (omega arith, omega (arith, w, b.adds_up, length-map (listed b.children) number_of, ap (λ n. n.count) h.1, ap (λ n. n.first) h.1, c.if-place-node.false))
-
-pub returns : goal.returns
-returns c =
-    let b = c.args.self.now in
-    let i = c.args.n.raw - 1 in
-    let j = c.args.place in
-    let cs = listed b.children in
-    let h = found_some (listed b.nodes) i c.in_ok-node.node blank (sym c.get.ensures.is_found_there ∙ c.in_ok-node.was) in
-    let n = get_or (listed b.nodes) i blank in
-    let w = laid_within (tree_of b) i b.laid_out h.0 in
-    let k : j < n.count = omega (arith, ap (λ m. m.count) h.1, c.if-place-node.false) in
-    let q = c.in_ok-node.node.first + j in
-    let l : q < length cs = omega (arith, w, b.adds_up, length-map cs number_of, ap (λ m. m.count) h.1, ap (λ m. m.first) h.1, c.if-place-node.false) in
-    let at = c.at.ensures.is_listed_there None in
-    let e = ap number_of at ∙ (sym (get_or-map number_of cs q None 0 l) ∙ ap (λ m. get_or (map number_of cs) (m.first + j) 0) h.1) in
-    record {
-      is_that_child = at ∙ (ap (λ m. get_or cs (m.first + j) None) h.1 ∙ sym (get_or-take n.count (drop n.first cs) j None k ∙ get_or-drop n.first cs j None));
-      is_lower = omega (arith, e, b.lower i j h.0 k, c.args.n.real);
-    }
+    let k = c.from.result in
+    let l = c.in_ok-get.ensures.lookup in
+    let e = c.children.ensures.are_its_children in
+    let there : k < length c.children.result.now = ltb-true _ _ (sym l.0) in
+    let same : number_of c.in_ok-get.field-0.now ≡ number_of (get_or (children_of b i) k None) = ap number_of (l.1 ∙ (get_or_default c.children.result.now k _ None there ∙ ap (λ xs. get_or xs k None) e)) in
+    omega (arith, same, child_lower b i k (omega (arith, there, ap length e)), c.args.n.real)

@@ -1,7 +1,0 @@
-use Rattle.std.proofs.Common.{arith, rules}
-use Rattle.format.specs.Layout.{u16at}
-use Rattle.format.proofs.bytes.u16_at.Goals as goal
-
-pub returns : goal.returns
-unfolding u16at
-returns c = record { reads_them = λ h. search rules; else_0 = λ h. absurd (omega arith) }

@@ -1,9 +1,0 @@
-use Rattle.std.proofs.Common.{ℕ, ◌<◌}
-use Rattle.sheet.specs.Records.{numbers}
-use Rattle.sheet.specs.Shape.{shape}
-use Rattle.sheet.specs.Tables.{listed}
-use Rattle.sheet.specs.Tree.{LetInPlace}
-use Rattle.sheet.proofs.place.check_lets.Given as goal
-
-abbrev pub invariant-loop-i : goal.invariant-loop-i
-invariant-loop-i l = (k : ℕ) → k < l.i → LetInPlace (shape (listed l.nodes) (numbers l.children)) k
