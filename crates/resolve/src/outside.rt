@@ -61,8 +61,8 @@ fn ask_frame_at<I: ItemHost>(items: &I, body: &Body, place: usize, name: Name) -
 fn ask_frames<I: ItemHost>(items: &I, body: &Body, name: Name) -> Option<Resolution>
     ensures innermost_first { result ≡ first (frame_answer (I.ItemHost.tables items.now) name) (reverse (frames_of body.now)) }
 {
-    // By place: tried over the frames in reverse and by `find_map`, and the proof, about an iterator's run,
-    // did not close.
+    // By place: by `find_map` over the frames in reverse the check leaves one goal, about an iterator's run,
+    // that nobody has proved.
     for place in (0..body.frame_count()).rev() {
         if let Some(found) = ask_frame_at(items, body, place, name) {
             return Some(found);
