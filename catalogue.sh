@@ -16,7 +16,7 @@ checked=$root/crates/catalogue/out/catalogue.checked
 is_fresh() {
     [ -x "$program" ] && [ -e "$checked" ] || return 1
     local newer
-    newer=$(cd "$root/crates" && find format sheet reach builder scope catalogue -name out -prune -o -type f -newer "$checked" -print -quit)
+    newer=$(cd "$root/crates" && find framing format table reader sheet reach builder scope catalogue -name out -prune -o -type f -newer "$checked" -print -quit)
     [ -z "$newer" ]
 }
 

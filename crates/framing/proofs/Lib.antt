@@ -3,3 +3,4 @@ pub mod Starts
 pub mod Framed
 pub mod Readers
 pub mod InOrder
+pub mod Numbers

@@ -12,6 +12,7 @@ fn bytes_at<const N: usize>(bytes: &[u8], at: usize) -> [u8; N]
 }
 
 // The two bytes at a place as a number, or 0 where they are not all there.
+#[tactic(auto, using(crate::proofs::Numbers::two))]
 pub fn u16_at(bytes: &[u8], at: usize) -> u16
     ensures reads_them { at + 2 ≤ length bytes.now → result ≡ u16at bytes.now at }
     ensures else_0 { length bytes.now < at + 2 → result ≡ 0 }
@@ -20,6 +21,7 @@ pub fn u16_at(bytes: &[u8], at: usize) -> u16
 }
 
 // The four bytes at a place as a number, or 0 where they are not all there.
+#[tactic(auto, using(crate::proofs::Numbers::four))]
 pub fn u32_at(bytes: &[u8], at: usize) -> u32
     ensures reads_them { at + 4 ≤ length bytes.now → result ≡ u32at bytes.now at }
     ensures else_0 { length bytes.now < at + 4 → result ≡ 0 }

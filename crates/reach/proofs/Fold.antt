@@ -75,6 +75,10 @@ below_done x f b n i e h = drop_all i (below x f b n) (rw length-map (omega (ari
 pub all_turn : (vs : List Visit) (i : ℕ) (at : Place) (s : State) → all (drop i vs) at s ≡ all (drop (i + 1) vs) (get_or vs i skip at s).1 (get_or vs i skip at s).0
 all_turn vs i at s = rw add-one (all_more vs i at s)
 
+pub all_none : (vs : List Visit) (at : _) (s : State) → vs ≡ [] → all vs at s ≡ (s, at)
+unfolding all
+all_none vs at s e = rw e
+
 pub all_end : (b : Shape) (n i : ℕ) (at : Place) (s : State) → (node_at b.nodes n).count ≤ i → all (drop i (visits b n)) at s ≡ (s, at)
 unfolding all
 all_end b n i at s h = rw (below_done skip step b n i refl h)
@@ -126,6 +130,10 @@ each_more (v ∷ vs) (suc i) at s = each_more vs i at s
 pub each_turn : (vs : List Visit) (i : ℕ) (at : Place) (s : State) → each (drop i vs) at s ≡ each (drop (i + 1) vs) at (get_or vs i skip at s).0
 each_turn vs i at s = rw add-one (each_more vs i at s)
 
+pub each_none : (vs : List Visit) (at : Place) (s : State) → vs ≡ [] → each vs at s ≡ s
+unfolding each
+each_none vs at s e = rw e
+
 pub each_end : (b : Shape) (n i : ℕ) (at : Place) (s : State) → (node_at b.nodes n).count ≤ i → each (drop i (visits b n)) at s ≡ s
 unfolding each
 each_end b n i at s h = rw (below_done skip step b n i refl h)
@@ -140,6 +148,10 @@ each_pairs_more (v ∷ vs) (suc i) at s = each_pairs_more vs i at s
 
 pub pairs_turn : (vs : List Visit) (i : ℕ) (at : Place) (s : State) → each (others (drop i vs)) at s ≡ each (others (drop (i + 2) vs)) at (get_or vs i skip at s).0
 pairs_turn vs i at s = let e : i + 2 ≡ suc (suc i) = omega arith in rw e (each_pairs_more vs i at s)
+
+pub each_pairs_none : (vs : List Visit) (at : Place) (s : State) → vs ≡ [] → each (others vs) at s ≡ s
+unfolding each others
+each_pairs_none vs at s e = rw e
 
 pub pairs_end : (b : Shape) (n i : ℕ) (at : Place) (s : State) → (node_at b.nodes n).count ≤ i → each (others (drop i (visits b n))) at s ≡ s
 unfolding each others

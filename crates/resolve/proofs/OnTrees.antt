@@ -1,5 +1,5 @@
 -- The steps of a look-up on the tables of a tree, as if a binding had another name.
-use Rattle.std.proofs.Common.{◌≡◌, IfOk, Some, None, Ok, Err, Option, Result, unwrap_or, sym, ap, ◌∙◌, subst, arith}
+use Rattle.std.proofs.Common.{◌≡◌, ◌-◌, ◌<◌, IfOk, Some, None, Ok, Err, Option, Result, unwrap_or, sym, ap, ◌∙◌, subst, arith}
 use Rattle.std.proofs.lemmas.List.{map-id}
 use Rattle.format.specs.declared.ids.Name.{Name}
 use Rattle.format.specs.declared.ids.ScopeId.{ScopeId}
@@ -7,6 +7,7 @@ use Rattle.host.specs.Meaning.{ItemTables, ExpansionTables}
 use Rattle.reach.specs.Bare.{Scope}
 use Rattle.reach.specs.Blank.{parent_of}
 use Rattle.scope.specs.Queries.{IsScope, data_of}
+use Rattle.reach.specs.declared.data.ScopeData.{ScopeData}
 use Rattle.scope.specs.declared.tables.ExprScopes.{ExprScopes}
 use Rattle.sheet.specs.Held.{frames_of}
 use Rattle.sheet.specs.declared.body.Body.{Body}
@@ -21,6 +22,14 @@ use Rattle.resolve.proofs.Agree.{found_by_rules}
 use Rattle.resolve.specs.Outward.{Surroundings, begun, crossed, outside, resolved, scope_answer, supposing, surroundings_of}
 use Rattle.resolve.proofs.Along.{from, from_scope, from_end}
 use Rattle.resolve.proofs.Chains.{told_below, told_length, told_scope}
+
+-- the way stands at scope s, with its record d
+abbrev pub Stopped : ExprScopes → Option ScopeId → ScopeId → ScopeData → Type 0
+Stopped t at s d = (at ≡ Some s) × IsScope t s × (d ≡ data_of t s)
+
+-- the next scope outward has a lower number
+pub outward_less : (t : ExprScopes) (at : Option ScopeId) (s : ScopeId) (d : ScopeData) → Stopped t at s d → parent_of d.parent < parent_of at
+outward_less t at s d h = omega (arith, ap parent_of h.0, ap (λ x. parent_of x.parent) h.2, t.tables.scopes.sloping (s.0 - 1) (omega (arith, h.1)), h.1)
 
 module _ (W : ItemTables) (X : ExpansionTables) (b : Body) (t : ExprScopes) (r : Option Rename) (n : Name) where
   abbrev T : Surroundings

@@ -8,7 +8,8 @@ use Rattle.format.specs.declared.kind.Sort.TheVariants as S
 use Rattle.format.specs.Kinds.{admits, same_sort, slot_at}
 use Rattle.sheet.specs.Shape.{Shape, node_at, kind_at, child_at, sort_at, times}
 use Rattle.sheet.specs.Steps.{FirstClaim}
-use Rattle.sheet.specs.Tree.{GoodChild}
+use Rattle.sheet.specs.declared.node.Node.{Node}
+use Rattle.sheet.specs.Tree.{Child, GoodChild}
 use Rattle.sheet.proofs.Times.{new_from, from_new}
 
 -- a child that is there, lower than its parent and admitted, is good exactly if the table has it as the first that names its node
@@ -43,3 +44,7 @@ same_flags true true h = refl
 same_flags true false h = h
 same_flags false true h = sym h
 same_flags false false h = refl
+
+-- a child as the code reads it
+pub child_is : (t : Shape) (i j c : ℕ) (n : Node) → n ≡ node_at t i → i < length t.nodes → j < n.count → c ≡ get_or t.children (n.first + j) 0 → Child t i j c
+child_is t i j c n e l h k = record { node = l; place = omega (arith, ap (λ x. x.count) e); is = sym (k ∙ ap (λ x. get_or t.children (x.first + j) 0) e) }

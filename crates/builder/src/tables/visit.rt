@@ -109,7 +109,7 @@ impl Tables {
     }
 }
 
-// The body, the node and the place go through the whole visit and differ at each call, so they are handed
+// The body goes through the whole visit, and the node and the place differ at each call, so they are handed
 // on one by one.
 impl Tables {
     // Visits node n at a place, and gives the place that what follows it is visited at.
@@ -125,8 +125,14 @@ impl Tables {
             current: at.constant,
             constant: at.constant,
         };
+        // Each kind has an arm of its own, also where two are visited alike: each is one clause of the
+        // definition, and the two are read side by side.
         match node.kind {
-            NodeKind::Leaf | NodeKind::Use { .. } => {
+            NodeKind::Leaf => {
+                self.place(n, at.current);
+                at
+            }
+            NodeKind::Use { .. } => {
                 self.place(n, at.current);
                 at
             }
@@ -189,26 +195,38 @@ impl Tables {
                 self.visit_at(body, n, 0, still);
                 at
             }
-            NodeKind::Repeat | NodeKind::Cast => {
+            NodeKind::Repeat => {
                 self.place(n, at.current);
                 self.visit_at(body, n, 0, at);
                 self.visit_at(body, n, 1, still);
                 at
             }
-            NodeKind::LeafPattern
-            | NodeKind::LeafType
-            | NodeKind::OtherItem
-            | NodeKind::Body { .. } => at,
+            NodeKind::Cast => {
+                self.place(n, at.current);
+                self.visit_at(body, n, 0, at);
+                self.visit_at(body, n, 1, still);
+                at
+            }
+            NodeKind::LeafPattern => at,
             NodeKind::Bind { binding } => {
                 self.enter(at.current, binding);
                 self.visit_each(body, n, 0, at);
                 at
             }
-            NodeKind::Patterns | NodeKind::ValuePattern => {
+            NodeKind::Patterns => {
                 self.visit_each(body, n, 0, at);
                 at
             }
-            NodeKind::Types | NodeKind::ArrayType => {
+            NodeKind::ValuePattern => {
+                self.visit_each(body, n, 0, at);
+                at
+            }
+            NodeKind::LeafType => at,
+            NodeKind::Types => {
+                self.visit_each(body, n, 0, still);
+                at
+            }
+            NodeKind::ArrayType => {
                 self.visit_each(body, n, 0, still);
                 at
             }
@@ -227,6 +245,7 @@ impl Tables {
                 let constant = self.make(at.constant, ScopeKind::MacroDef(id));
                 Place { current, constant }
             }
+            NodeKind::OtherItem => at,
             NodeKind::Arm => {
                 let opened = self.deepen(ScopeKind::Plain, at);
                 self.visit_at(body, n, 0, opened);
@@ -234,6 +253,7 @@ impl Tables {
                 self.visit_at(body, n, 2, held);
                 at
             }
+            NodeKind::Body { .. } => at,
         }
     }
 

@@ -14,7 +14,7 @@ pub struct NodeText<'a> {
 impl NodeText<'_> {
     // The children place by place, each after a space: its number, or `-` where it is absent.
     fn children<W: fmt::Write>(&self, f: &mut fmt::Formatter<W>) -> fmt::Result {
-        for child in self.body.children(self.id) {
+        for child in self.body.children(self.id).unwrap_or(&[]) {
             match child {
                 Some(child) => write!(f, " {}", child.number())?,
                 None => f.write_str(" -")?,

@@ -1,5 +1,5 @@
 // What a body holds, told by number.
-ghost use Rattle.std.specs.Prelude.{◌≡◌, ℕ, ◌+◌, ◌-◌, ◌<◌, ◌≤◌, length, None, slice_index_or};
+ghost use Rattle.std.specs.Prelude.{◌≡◌, ℕ, ◌+◌, ◌-◌, ◌<◌, ◌≤◌, length, None, MatchOption, slice_index_or};
 ghost use Rattle.format.specs.Ids.{number_of};
 ghost use Rattle.sheet.specs.Held.{bindings_of, children_of, frames_of, nodes_of, tree_of};
 ghost use Rattle.table.specs.Tables.{found};
@@ -36,22 +36,20 @@ impl Body {
         ensures is_that_child { result ≡ slice_index_or (children_of self.now (n.raw - 1)) place None }
         ensures is_lower { number_of result < n.raw }
     {
-        *self.children(n).get(usize::from(place))?
+        *self.children(n)?.get(usize::from(place))?
     }
 
     // The children of a node place by place, each of which may be absent; none for a number that no
     // node has.
-    pub fn children(&self, n: NodeId) -> &[Option<NodeId>]
-        ensures are_its_children { result.now ≡ children_of self.now (n.raw - 1) }
+    pub fn children(&self, n: NodeId) -> Option<&[Option<NodeId>]>
+        ensures are_its_children { MatchOption result
+            (length (nodes_of self.now) < n.raw)
+            (λ cs. (n.raw ≤ length (nodes_of self.now)) × (cs.now ≡ children_of self.now (n.raw - 1))) }
     {
-        match self.node(n) {
-            Some(node) => {
-                let first = node.first as usize;
-                let end = first + usize::from(node.count);
-                &self.children.as_slice()[first..end]
-            }
-            None => &[],
-        }
+        let node = self.node(n)?;
+        let first = node.first as usize;
+        let end = first + usize::from(node.count);
+        Some(&self.children.as_slice()[first..end])
     }
 
     pub fn child_count(&self) -> usize

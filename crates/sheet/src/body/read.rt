@@ -25,9 +25,9 @@ impl Body {
         };
         let tree = draft.check_tree()?;
         tree.check_lets()?;
-        let children = draft.child_table();
         let bindings = read_records(sheet.bindings)?;
         let frames = read_records(sheet.frames)?;
+        let children = draft.child_table();
         Ok(Body {
             nodes,
             children,

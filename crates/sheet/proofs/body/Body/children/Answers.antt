@@ -1,29 +1,40 @@
-use Rattle.std.proofs.Common.{◌+◌, ◌-◌, ◌≤◌, length, take, drop, sym, ap, ◌∙◌, arith}
-use Rattle.std.proofs.lemmas.List.{get_or_past, length-map}
+use Rattle.std.proofs.Common.{◌≡◌, ◌+◌, ◌-◌, ◌<◌, ◌≤◌, length, get_or, take, drop, sym, ap, ◌∙◌, arith}
+use Rattle.std.proofs.lemmas.List.{length-map}
 use Rattle.format.specs.Ids.{number_of}
 use Rattle.sheet.specs.Held.{tree_of}
 use Rattle.sheet.specs.Shape.{blank}
+use Rattle.sheet.specs.declared.node.Node.{Node}
 use Rattle.table.specs.Tables.{listed}
 use Rattle.sheet.proofs.Counts.{laid_within}
-use Rattle.table.proofs.Listed.{found_none, found_some}
+use Rattle.table.proofs.Listed.{found_some}
 use Rattle.sheet.proofs.body.Body.children.Goals as goal
 use Rattle.sheet.proofs.body.Body.children.Goals.{After-as_slice}
 
-pub returns-in-None : goal.returns-in-None
-returns-in-None c =
-    let b = c.args.self.now in
-    let i = c.args.n.raw - 1 in
-    let e = get_or_past (listed b.nodes) i blank (found_none (listed b.nodes) i (sym c.node.ensures.is_that_node ∙ c.in-None.is)) in
-    record { are_its_children = sym (ap (λ n. take n.count (drop n.first (listed b.children))) e) }
+-- the node is one of the body's
+module _ (c : After-as_slice) where
+  there : (c.args.n.raw - 1 < length (listed c.args.self.now.nodes)) × (c.in_ok-node.node ≡ get_or (listed c.args.self.now.nodes) (c.args.n.raw - 1) blank)
+  there = found_some (listed c.args.self.now.nodes) (c.args.n.raw - 1) c.in_ok-node.node blank (sym c.node.ensures.is_that_node ∙ c.in_ok-node.was)
 
--- the children of a node that is there end within the table
-within : (c : After-as_slice) → c.in-Some.node.first + c.in-Some.node.count ≤ length (listed c.args.self.now.children)
-within c =
-    let b = c.args.self.now in
-    let i = c.args.n.raw - 1 in
-    let h = found_some (listed b.nodes) i c.in-Some.node blank (sym c.node.ensures.is_that_node ∙ c.in-Some.is) in
-    let w = laid_within (tree_of b) i b.laid_out h.0 in
-    omega (arith, w, b.adds_up, length-map (listed b.children) number_of, ap (λ n. n.count) h.1, ap (λ n. n.first) h.1)
+  -- its children end within the table
+  within : c.in_ok-node.node.first + c.in_ok-node.node.count ≤ length (listed c.args.self.now.children)
+  within =
+      let b = c.args.self.now in
+      let w = laid_within (tree_of b) (c.args.n.raw - 1) b.laid_out there.0 in
+      omega (arith, w, b.adds_up, length-map (listed b.children) number_of, ap (λ (n : Node). n.count) there.1, ap (λ (n : Node). n.first) there.1)
 
 pub slice_bounds-result-end : goal.slice_bounds-result-end
-slice_bounds-result-end c = omega (arith, within c, c.from.ensures, ap length c.as_slice.ensures.are_the_listed)
+slice_bounds-result-end c = omega (arith, within (goal.at.slice_bounds-result-end c).After-as_slice, c.from.ensures, ap length c.as_slice.ensures.are_the_listed)
+
+pub returns : goal.returns
+returns c =
+    let a = (goal.at.returns c).After-as_slice in
+    let f = c.in_ok-node.node.first in
+    let n : f + c.from.result - f ≡ c.in_ok-node.node.count = omega (arith, c.from.ensures) in
+    record {
+      are_its_children = (
+        omega (arith, (there a).0, c.args.n.real),
+        ap (λ k. take k (drop f c.as_slice.result.now)) n ∙
+            (ap (λ xs. take c.in_ok-node.node.count (drop f xs)) c.as_slice.ensures.are_the_listed ∙
+            ap (λ (m : Node). take m.count (drop m.first (listed c.args.self.now.children))) (there a).1),
+      );
+    }

@@ -18,7 +18,7 @@ use Rattle.sheet.proofs.Load.{Read, GoodBindings, GoodFrames, frame_first, nodes
 use Rattle.reader.proofs.Stands.{fault_stands, rows_stand}
 use Rattle.sheet.proofs.Once.{children_low, once, all_lower, all_admitted, body_last}
 use Rattle.sheet.proofs.body.Body.read.Goals as goal
-use Rattle.sheet.proofs.body.Body.read.Goals.{After-bytes-2, In_ok-tree, In_ok-check_lets, In_ok-bindings, In_ok-frames}
+use Rattle.sheet.proofs.body.Body.read.Goals.{After-bytes-2, In_ok-tree, In_ok-check_lets, In_ok-bindings, In_ok-frames, After-child_table-children}
 
 -- the nodes and the children, as the sheet writes them
 drafted : (c : After-bytes-2) → Read c.args.bytes.now c.as_slice.result.now c.bytes-2.result.now
@@ -119,7 +119,7 @@ returns-in_err-frames c =
     }
 
 -- the laws over the nodes and the children as the tables list them
-module _ (c : In_ok-frames) where
+module _ (c : After-child_table-children) where
   same_shape : shape c.as_slice.result.now (numbers c.bytes-2.result.now) ≡ shape (listed c.in_ok-nodes.nodes) (map number_of (listed c.child_table-children.result))
   same_shape = ap (λ ns. shape ns (numbers c.bytes-2.result.now)) c.as_slice.ensures.are_the_listed ∙ ap (shape (listed c.in_ok-nodes.nodes)) (sym c.child_table-children.ensures.all_as_written)
 
@@ -130,7 +130,7 @@ invariant_of-result c =
     let d = drafted at.After-bytes-2 in
     let g = good at.In_ok-tree in
     let u = shape c.as_slice.result.now (numbers c.bytes-2.result.now) in
-    let e = same_shape at.In_ok-frames in
+    let e = same_shape at.After-child_table-children in
     let o = laid bs _ _ d (numbers c.bytes-2.result.now) in
     let v = bindings_are at.In_ok-bindings in
     let w = frames_are at.In_ok-frames in
