@@ -1,5 +1,5 @@
 // What a body holds, told by number.
-ghost use Rattle.std.specs.Prelude.{◌≡◌, ℕ, ◌+◌, ◌-◌, ◌<◌, ◌≤◌, length, None, MatchOption, slice_index_or};
+ghost use Rattle.std.specs.Prelude.{◌≡◌, ℕ, ◌+◌, ◌-◌, ◌<◌, ◌≤◌, length, None, IfSome, MatchOption, slice_index_or};
 ghost use Rattle.format.specs.Ids.{number_of};
 ghost use Rattle.sheet.specs.Held.{bindings_of, children_of, frames_of, nodes_of, tree_of};
 ghost use Rattle.table.specs.Tables.{found};
@@ -42,9 +42,8 @@ impl Body {
     // The children of a node place by place, each of which may be absent; none for a number that no
     // node has.
     pub fn children(&self, n: NodeId) -> Option<&[Option<NodeId>]>
-        ensures are_its_children { MatchOption result
-            (length (nodes_of self.now) < n.raw)
-            (λ cs. (n.raw ≤ length (nodes_of self.now)) × (cs.now ≡ children_of self.now (n.raw - 1))) }
+        ensures none_just_where_no_node_is { MatchOption result (length (nodes_of self.now) < n.raw) (λ _. n.raw ≤ length (nodes_of self.now)) }
+        ensures are_its_children { IfSome result (λ cs. cs.now ≡ children_of self.now (n.raw - 1)) }
     {
         let node = self.node(n)?;
         let first = node.first as usize;

@@ -1,4 +1,4 @@
-use Rattle.std.proofs.Common.{◌≡◌, ◌+◌, ◌-◌, ◌<◌, ◌≤◌, length, get_or, take, drop, sym, ap, ◌∙◌, arith}
+use Rattle.std.proofs.Common.{◌≡◌, ◌+◌, ◌-◌, ◌<◌, ◌≤◌, length, get_or, sym, ap, ◌∙◌, arith}
 use Rattle.std.proofs.lemmas.List.{length-map}
 use Rattle.format.specs.Ids.{number_of}
 use Rattle.sheet.specs.Held.{tree_of}
@@ -25,16 +25,5 @@ module _ (c : After-as_slice) where
 pub slice_bounds-result-end : goal.slice_bounds-result-end
 slice_bounds-result-end c = omega (arith, within (goal.at.slice_bounds-result-end c).After-as_slice, c.from.ensures, ap length c.as_slice.ensures.are_the_listed)
 
-pub returns : goal.returns
-returns c =
-    let a = (goal.at.returns c).After-as_slice in
-    let f = c.in_ok-node.node.first in
-    let n : f + c.from.result - f ≡ c.in_ok-node.node.count = omega (arith, c.from.ensures) in
-    record {
-      are_its_children = (
-        omega (arith, (there a).0, c.args.n.real),
-        ap (λ k. take k (drop f c.as_slice.result.now)) n ∙
-            (ap (λ xs. take c.in_ok-node.node.count (drop f xs)) c.as_slice.ensures.are_the_listed ∙
-            ap (λ (m : Node). take m.count (drop m.first (listed c.args.self.now.children))) (there a).1),
-      );
-    }
+pub returns-clause-none_just_where_no_node_is : goal.returns-clause-none_just_where_no_node_is
+returns-clause-none_just_where_no_node_is c = omega (arith, (there (goal.at.returns-clause-none_just_where_no_node_is c).After-as_slice).0, c.args.n.real)
